@@ -1,17 +1,5 @@
 pub mod Answers
-pub mod Carried
-pub mod Carries
-pub mod Ends
-pub mod Frames
-pub mod Layouts
-pub mod Logs
-pub mod Made
-pub mod OwnRounds
 pub mod Playing
-pub mod Rounds
-pub mod Runs
 pub mod Settling
 pub mod Since
 pub mod Stops
-pub mod Teams
-pub mod Workers

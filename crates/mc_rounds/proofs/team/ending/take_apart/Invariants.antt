@@ -1,6 +1,0 @@
-use Rattle.mc_rounds.proofs.TakenInboxes.{IsTakingApart}
-use Rattle.mc_rounds.specs.Made.{inboxes_of}
-use Rattle.mc_rounds.proofs.team.ending.take_apart.Given as goal
-
-abbrev pub invariant-loop-member : goal.invariant-loop-member
-invariant-loop-member l = IsTakingApart l.fn.team.members.items l.boxes.items (inboxes_of l.inboxes.items) l.member-iterator.rest.items

@@ -1,7 +1,0 @@
-use Rattle.mc_rounds.proofs.TakenInboxes.{IsEmptying}
-use Rattle.mc_rounds.specs.Made.{inboxes_of}
-use Rattle.mc_worker.specs.Boxes.{items_of}
-use Rattle.mc_rounds.proofs.team.ending.take_each.Given as goal
-
-abbrev pub invariant-loop-ends : goal.invariant-loop-ends
-invariant-loop-ends l = IsEmptying l.lanes l.ends-index (inboxes_of l.fn.inboxes.items) (inboxes_of l.inboxes.items) (items_of l.taken.items)

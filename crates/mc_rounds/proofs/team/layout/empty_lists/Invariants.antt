@@ -1,6 +1,0 @@
-use Rattle.std.proofs.Common.{◌≡◌, [], replicate}
-use Rattle.mc_rounds.specs.Layouts.{inner_lists}
-use Rattle.mc_rounds.proofs.team.layout.empty_lists.Given as goal
-
-abbrev pub invariant-loop-done : goal.invariant-loop-done
-invariant-loop-done g l = inner_lists l.lists.items ≡ replicate l._done []

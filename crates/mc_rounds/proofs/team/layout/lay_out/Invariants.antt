@@ -1,6 +1,0 @@
-use Rattle.std.proofs.Common.{take}
-use Rattle.mc_rounds.specs.Layouts.{IsLayoutSoFar}
-use Rattle.mc_rounds.proofs.team.layout.lay_out.Given as goal
-
-abbrev pub invariant-loop-number : goal.invariant-loop-number
-invariant-loop-number l = IsLayoutSoFar l.fn.boxes (take l.number l.fn.channels) l.layout

@@ -1,0 +1,13 @@
+pub mod Carried
+pub mod Carries
+pub mod Ends
+pub mod Frames
+pub mod Layouts
+pub mod Logs
+pub mod Made
+pub mod OwnRounds
+pub mod Rounds
+pub mod Runs
+pub mod Teams
+pub mod Turns
+pub mod Workers
