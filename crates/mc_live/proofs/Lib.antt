@@ -2,3 +2,5 @@ mod Halving
 mod Joining
 mod Stepping
 mod Asks
+mod Ends
+mod Freed

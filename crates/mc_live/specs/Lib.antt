@@ -4,3 +4,5 @@ pub mod Accounts
 pub mod Courses
 pub mod BoxRuns
 pub mod Askers
+pub mod Ends
+pub mod Phases

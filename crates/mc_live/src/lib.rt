@@ -8,6 +8,7 @@ mod asking;
 mod box_run;
 mod collecting;
 mod course;
+pub mod laws;
 pub mod limit;
 mod running;
 
