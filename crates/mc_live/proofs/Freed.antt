@@ -1,9 +1,10 @@
 -- The turns of boxes that ran freely are one run of their network.
-use Rattle.std.proofs.Common.{◌≡◌, ◌++◌, ℕ, zero, suc, false, List, [], ◌∷◌, length, map, slice_get, slice_index_or, Option, Some, inl, inr, refl, sym, ◌∙◌, ap, subst, append_assoc, arith}
+use Rattle.std.proofs.Common.{◌≡◌, ◌++◌, ℕ, zero, suc, false, IsTrue, List, [], ◌∷◌, length, map, slice_get, slice_index_or, Option, Some, inl, inr, refl, sym, ◌∙◌, ap, subst, append_assoc, arith}
 use Rattle.std.specs.List.{AllByRecursion, AllZip}
 use Rattle.std.proofs.lemmas.List.{length-map, map-append}
 use Rattle.std.proofs.lemmas.Option.{slice_get-get_or, slice_get_within}
 use Rattle.mc_box.specs.BoxEvents.{is_command, turn_of}
+use Rattle.mc_box.specs.BoxShapes.{BoxShapeState, box_shape, is_enabled_by}
 use Rattle.mc_box.specs.declared.event.Event.{Event}
 use Rattle.mc_box.specs.declared.event.Turn.{Turn}
 use Rattle.mc_desk.specs.Desks.{taken_by}
@@ -12,10 +13,12 @@ use Rattle.mc_flight.specs.Seats.{sent_count, taken_count}
 use Rattle.mc_live.specs.Accounts.{with_commands}
 use Rattle.mc_live.specs.Beside.{AllThree}
 use Rattle.mc_live.specs.BoxRuns.{HasRunFreely, HaveRunFreely}
-use Rattle.mc_live.specs.Courses.{HasCome, is_refused}
-use Rattle.mc_live.specs.Phases.{AreOwnTurns, AreSetFree, FreeRunsAreRuns, IsSetFree, IsTold, NoneRefused, left_by, member_of}
+use Rattle.mc_live.specs.Courses.{AreAllAllowed, GoesSo, HasCome, is_refused}
+use Rattle.mc_live.specs.Phases.{AreOwnTurns, AreSetFree, FreeRunsAreRuns, IsLeftSo, IsSetFree, IsTold, NoneRefused, left_by, member_of}
 use Rattle.mc_live.specs.Requests.{events_asked}
 use Rattle.mc_live.specs.declared.box_run.BoxRun.{BoxRun}
+use Rattle.mc_live.specs.declared.course.Pace.{Pace}
+use Rattle.mc_live.specs.declared.course.Pace.TheVariants.{Runs, Finished, Stopped, Unfit, Refused}
 use Rattle.mc_merge.specs.LaneLogs.{claimed_of}
 use Rattle.mc_model.specs.Settles.{commands_of, of_kind}
 use Rattle.mc_model.specs.Steps.{run}
@@ -191,6 +194,30 @@ asked_each who own turns log told are =
     ap (λ (l : List Turn). l ++ map (turn_of who) (left_by own)) (are is_command)
     ∙ (sym (map-append (turn_of who) (events_that is_command log) (left_by own)) ∙ ap (map (turn_of who)) told.commands)
 
+-- why commands are left to a box
+left_by_pace : (pace : Pace) (a : Worker) (own : BoxRun) → (pace ≡ Runs → own.worker.stimuli.items ≡ []) → box_shape own.worker.part ≡ box_shape a.part → taken_by own.taker ≡ own.course.taken.items
+    → GoesSo a own.worker own.course.taken.items own.course.kept.items own.course.turns pace → IsLeftSo own pace
+left_by_pace Runs a own used shape same so = ap (λ (l : List Event). l ++ own.course.kept.items) (used refl) ∙ so.1
+left_by_pace Finished a own used shape same so = so
+left_by_pace (Stopped stop) a own used shape same so = so
+left_by_pace Unfit a own used shape same so = λ all.
+    so (subst (λ (s : BoxShapeState). AllByRecursion (λ (event : Event). IsTrue (is_enabled_by s event)) (events_asked own.course.taken.items)) shape (subst (AreAllAllowed own.worker) same all))
+left_by_pace (Refused e) a own used shape same so = so
+
+left_at : (desk : Desk) (began own : BoxRun) → HasRunFreely desk began own → is_refused own.course.pace ≡ false → IsLeftSo own own.course.pace
+left_at desk began own ran calm = elim ran.on.come [
+  | inl refused ↦ cc
+  | inr both ↦ left_by_pace own.course.pace began.worker own ran.used both.0.run.shape both.1 both.0.goes
+]
+
+left_each : (desks : List Desk) (began free : List BoxRun) (who : ℕ) (own : BoxRun) → HaveRunFreely desks began free → NoneRefused free → slice_get free who ≡ Some own → IsLeftSo own own.course.pace
+left_each desks began free who own ran calm at =
+    let there = slice_get_within free who own at in
+    let long = three_count HasRunFreely desks began free ran in
+    let first = slice_get-get_or began who own (omega (arith, there, long)) in
+    let three = three_at HasRunFreely desks began free who (slice_index_or began who own) own ran first at in
+    left_at three.0 (slice_index_or began who own) own three.1 (all_at (λ (o : BoxRun). is_refused o.course.pace ≡ false) free who own calm at)
+
 -- ---- the law
 
 pub free_runs_are_runs : FreeRunsAreRuns
@@ -204,4 +231,5 @@ free_runs_are_runs channels lanes ends old new desks began free turns stand set 
       commands = λ who own at.
           let tells = told_each desks began free turns set ran are claimed who own at in
           asked_each who own turns tells.0 tells.1 tells.2;
+      left = λ who own at. left_each desks began free who own ran calm at;
     }

@@ -1,5 +1,5 @@
 -- What the boxes of a team do that run freely, each on a thread of its own.
-use Rattle.std.specs.Prelude.{◌≡◌, ◌++◌, ℕ, false, Bool, List, [], length, map, slice_get, None, Some}
+use Rattle.std.specs.Prelude.{◌≡◌, ◌++◌, ◌<◌, ℕ, false, Bool, List, [], length, map, slice_get, None, Some}
 use Rattle.std.specs.List.{AllByRecursion, AllZip}
 use Rattle.mc_box.specs.BoxEvents.{is_command, is_take, turn_of}
 use Rattle.mc_box.specs.declared.event.Event.{Event}
@@ -8,9 +8,12 @@ use Rattle.mc_desk.specs.Desks.{taken_by}
 use Rattle.mc_desk.specs.declared.desk.Desk.{Desk}
 use Rattle.mc_flight.specs.Seats.{sent_count, taken_count}
 use Rattle.mc_live.specs.BoxRuns.{HaveRunFreely}
-use Rattle.mc_live.specs.Courses.{is_refused}
+use Rattle.mc_live.specs.Courses.{AreAllAllowed, IsLastStop, is_refused}
 use Rattle.mc_live.specs.Requests.{events_asked}
 use Rattle.mc_live.specs.declared.box_run.BoxRun.{BoxRun}
+use Rattle.mc_live.specs.declared.course.Pace.{Pace}
+use Rattle.mc_live.specs.declared.course.Pace.TheVariants.{Runs, Finished, Stopped, Unfit, Refused}
+use Rattle.mc_live.specs.declared.limit.TheConstants.{FURTHER_ROUND_LIMIT}
 use Rattle.mc_model.specs.Settles.{commands_of, of_kind}
 use Rattle.mc_model.specs.Steps.{run}
 use Rattle.mc_model.specs.Worlds.{ChannelState}
@@ -49,6 +52,16 @@ NoneRefused free = AllByRecursion (λ (own : BoxRun). is_refused own.course.pace
 abbrev pub left_by : BoxRun → List Event
 left_by free = free.worker.stimuli.items ++ free.course.kept.items
 
+-- why commands are left to a box that makes no further round: it has made its turns; its next command is a Hear of a
+-- slot at its last version, or the signal that is next at an end can't be taken; or it was asked for an event that it
+-- can't make. To one that makes rounds none is left
+abbrev pub IsLeftSo : BoxRun → Pace → Type 0
+IsLeftSo free Runs = left_by free ≡ []
+IsLeftSo free Finished = FURTHER_ROUND_LIMIT < free.course.turns
+IsLeftSo free (Stopped stop) = IsLastStop free.worker stop
+IsLeftSo free Unfit = AreAllAllowed free.worker (taken_by free.taker) → ⊥
+IsLeftSo free (Refused e) = ⊥
+
 -- the log of a box has as many turns as its course says; what they sent and took was counted with its seat; and their
 -- commands, and then those that are left, are the events that it was asked for, in their order
 pub record IsTold (free : BoxRun) (log : List Claimed) : Type 0 where
@@ -75,6 +88,7 @@ pub record IsFreeRun (channels : List ChannelState) (lanes : List LaneEnds) (end
   pub commands : (who : ℕ) (own : BoxRun) → slice_get free who ≡ Some own
       → commands_of who turns ++ map (turn_of who) (left_by own)
       ≡ map (turn_of who) (events_asked (taken_by own.taker))
+  pub left : (who : ℕ) (own : BoxRun) → slice_get free who ≡ Some own → IsLeftSo own own.course.pace
 
 -- where the boxes of a team ran freely, what was under way then was carried, and the turns are those of all logs, they
 -- are such a run
