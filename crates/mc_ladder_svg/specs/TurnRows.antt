@@ -18,10 +18,14 @@ abbrev pub closing_mark : (closing : Bool) → List ℕ
 closing_mark true = codes "<text class=\"cl h s\" x=\"55\" y=\"21\">*</text>"
 closing_mark false = []
 
--- its end, and its number with its mark
-abbrev pub row_end : Row → List ℕ
-row_end row = concat (
+-- its end, and its number
+abbrev pub row_number : Row → List ℕ
+row_number row = concat (
     line (codes "</g>")
     ∷ codes "<g transform=\"translate(0," ∷ decimal row.y ∷ codes ")\"><text class=\"d e\" x=\"52\" y=\"21\">"
-    ∷ decimal row.number ∷ codes "</text>" ∷ closing_mark row.closing ∷ line (codes "</g>")
+    ∷ decimal row.number ∷ codes "</text>"
     ∷ [])
+
+-- and its mark
+abbrev pub row_end : Row → List ℕ
+row_end row = row_number row ++ closing_mark row.closing ++ line (codes "</g>")

@@ -1,7 +1,7 @@
 // What each turn's row has: its place and its number.
 
 ghost use Rattle.std.specs.Prelude.{◌≡◌, ◌++◌, OnOk};
-ghost use Rattle.mc_ladder_svg.specs.TurnRows.{closing_mark, row_end, row_place, row_start};
+ghost use Rattle.mc_ladder_svg.specs.TurnRows.{closing_mark, row_end, row_number, row_place, row_start};
 
 use crate::element::put_bytes;
 use std::alloc::{AllocError, Global};
@@ -46,14 +46,22 @@ pub fn put_row_place(alloc: Global, y: u128, out: &mut Vec<u8>) -> Result<(), Al
     put_bytes(tag.as_bytes(), out)
 }
 
-// Appends the end of a row, and its number with its mark.
+// Appends the end of a row, and its number.
+fn put_row_number(alloc: Global, row: Row, out: &mut Vec<u8>) -> Result<(), AllocError>
+    ensures { OnOk result (out.new.items ≡ out.old.items ++ row_number row) }
+{
+    let Row { number, y, .. } = row;
+    let tag = format!(in alloc;
+        "</g>\n<g transform=\"translate(0,{y})\"><text class=\"d e\" x=\"52\" y=\"21\">{number}</text>"
+    )?;
+    put_bytes(tag.as_bytes(), out)
+}
+
+// The same, and its mark.
 pub fn put_row_end(alloc: Global, row: Row, out: &mut Vec<u8>) -> Result<(), AllocError>
     ensures { OnOk result (out.new.items ≡ out.old.items ++ row_end row) }
 {
-    let Row { number, y, closing } = row;
-    let mark = closing_mark(closing);
-    let tag = format!(in alloc;
-        "</g>\n<g transform=\"translate(0,{y})\"><text class=\"d e\" x=\"52\" y=\"21\">{number}</text>{mark}</g>\n"
-    )?;
-    put_bytes(tag.as_bytes(), out)
+    put_row_number(alloc, row, out)?;
+    put_bytes(closing_mark(row.closing).as_bytes(), out)?;
+    put_bytes(b"</g>\n", out)
 }

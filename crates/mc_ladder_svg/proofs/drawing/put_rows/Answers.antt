@@ -9,6 +9,6 @@ returns-in_ok-put_settle-in-Settled-clause-rows c =
     let told : c.deref.result.now ≡ c.args.whys.now.whys = c.deref.ensures.value ∙ c.in_ok-all-in-Settled.ensures in
     rw c.in-Settled.is (c.in_ok-put_settle-in-Settled.ensures
     ∙ (ap (λ (vs : List PathView). c.args.out.now.items ++ settle_block c.args.columns.now c.args.names.now c.args.world.now c.deref.result.now vs (record { number = c.args.count.settles + 1; y = c.args.y; closing = false }))
-    (c.deref-2.ensures.value ∙ c.in_ok-views-in-Settled.ensures)
+    (c.deref-in-Settled.ensures.value ∙ c.in_ok-views-in-Settled.ensures)
     ∙ ap (λ (whys : List (Option ℕ)). c.args.out.now.items ++ settle_block c.args.columns.now c.args.names.now c.args.world.now whys (shown_paths c.args.choice.now c.args.world.now) (record { number = c.args.count.settles + 1; y = c.args.y; closing = false }))
     told))
