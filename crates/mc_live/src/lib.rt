@@ -11,6 +11,7 @@ mod course;
 pub mod laws;
 pub mod limit;
 mod running;
+mod together;
 
 pub use all_askers::run_askers;
 pub use all_boxes::run_boxes;
@@ -19,3 +20,4 @@ pub use asking::ask_all;
 pub use box_run::BoxRun;
 pub use course::{Course, Pace};
 pub use running::run_box;
+pub use together::run_together;
