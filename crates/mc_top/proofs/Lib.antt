@@ -9,6 +9,7 @@ pub mod Explaining
 mod FirstWorlds
 mod GenAlike
 mod GoodJournals
+mod GrownCompletes
 mod GrownEnds
 mod GrownTexts
 mod LastVersions

@@ -1,6 +1,7 @@
 // The top call.
 ghost use Rattle.std.specs.Prelude.{◌≡◌, ◌≢◌, ◌⊎◌, ◌==◌, ◌≤◌, ◌<◌, ◌-◌, ◌^◌, ℕ, Bool, List, [], false, length, map, All, IfErr, IfOk, IsFalse, IsTrue, None, Option, Some};
 ghost use Rattle.mc_explain.specs.Reasons.{IsFaultOfJournal, IsTextFault};
+ghost use Rattle.mc_grown_rest.specs.GrowingTexts.{CanGrow};
 ghost use Rattle.mc_io.specs.Bytes.{ConsumesAtMost};
 ghost use Rattle.mc_io.specs.Faults.{Rose, faults_after, is_failed_read};
 ghost use Rattle.mc_journal.specs.Printed.{IsNamedLine};
@@ -732,6 +733,12 @@ pub fn media_top<R: Threads + Sync, S: Source, K: Sink, G: Gate + Sync>(
     // Where the work can be done and no fault was counted, it is done, but for want of memory.
     ensures complete { (mode : Mode) (text : List ℕ) → IsCommand words.items mode
         → text_for mode (S.left source.old) ≡ Some text → IsWorkable mode text
+        → ¬ Rose (S.faults source.old) (S.faults source.new) → ¬ Rose (K.faults sink.old) (K.faults sink.new)
+        → (result.status ≡ WORKED) ⊎ (result.status ≡ NO_MEMORY) }
+
+    // Where the text of a script that grows shows that it comes to its end and no fault was counted, it is run, but for
+    // want of memory.
+    ensures complete_grown { (text : List ℕ) → AsksToGrow words.items → S.left source.old ≡ Some text → CanGrow text
         → ¬ Rose (S.faults source.old) (S.faults source.new) → ¬ Rose (K.faults sink.old) (K.faults sink.new)
         → (result.status ≡ WORKED) ⊎ (result.status ≡ NO_MEMORY) }
 

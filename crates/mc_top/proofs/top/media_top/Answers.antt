@@ -5,6 +5,9 @@ use Rattle.mc_io.specs.Bytes.{ConsumesAtMost}
 use Rattle.mc_lines.specs.Rules.{read_limit}
 use Rattle.mc_top.specs.Modes.{IsWithinLimits, IsWorkable, reads, tail_of, text_for}
 use Rattle.mc_top.specs.Top.{Ends, HasReadWhole}
+use Rattle.mc_top.proofs.GrownCompletes.{completes_grown}
+use Rattle.mc_top.specs.Growing.{EndsGrownAs}
+use Rattle.mc_words.specs.Commands.{AsksToGrow}
 use Rattle.mc_top.proofs.OwnTexts.{false_unless, scene_stated, within_limits, works_on}
 use Rattle.mc_top.proofs.Told.{completes, not_failed}
 use Rattle.mc_top.proofs.top.media_top.Goals as goal
@@ -24,6 +27,16 @@ returns-clause-ends g c = λ mode is.
 
 pub returns-clause-ends_grown : goal.returns-clause-ends_grown
 returns-clause-ends_grown g c = λ grows. absurd (growing_no_mode c.args.words.items c.in-Some.mode grows (rw (c.deref.ensures.value, c.in-Some.is) at c.in-Ok.ensures.some))
+
+pub returns-in_default-read-clause-complete_grown : goal.returns-in_default-read-clause-complete_grown
+returns-in_default-read-clause-complete_grown g c = λ text grows told can no_read no_write.
+    let ends : AsksToGrow c.args.words.items → EndsGrownAs (g.S.Source.left c.args.source.now) (g.K.Sink.written c.args.sink.now) (g.K.Sink.written c.without_mode.new.sink) c.without_mode.result = search rules in
+    completes_grown (g.S.Source.left c.args.source.now) (g.K.Sink.written c.args.sink.now) (g.K.Sink.written c.without_mode.new.sink) text c.without_mode.result.status c.without_mode.result.due c.without_mode.result.journal.items
+    c.without_mode.ensures.status (ends grows) told can
+    (not_failed _ _ _ _ c.without_mode.ensures.read_fault no_read) (not_failed _ _ _ _ c.without_mode.ensures.write_fault no_write)
+
+pub returns-clause-complete_grown : goal.returns-clause-complete_grown
+returns-clause-complete_grown g c = λ text grows. absurd (growing_no_mode c.args.words.items c.in-Some.mode grows (rw (c.deref.ensures.value, c.in-Some.is) at c.in-Ok.ensures.some))
 
 pub returns-clause-read_whole_grown : goal.returns-clause-read_whole_grown
 returns-clause-read_whole_grown g c = λ grows. absurd (growing_no_mode c.args.words.items c.in-Some.mode grows (rw (c.deref.ensures.value, c.in-Some.is) at c.in-Ok.ensures.some))
