@@ -17,7 +17,7 @@ mod MemberLists
 mod NewBoxes
 mod NewMembers
 mod NewWorlds
-mod OnLanes
+pub mod OnLanes
 mod OneCommand
 mod OneJoined
 mod OwnRounds

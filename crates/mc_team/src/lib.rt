@@ -17,5 +17,10 @@ mod round;
 mod running;
 mod team;
 
-pub use round::RoundLog;
-pub use team::Team;
+pub use boxes::TeamBoxes;
+pub use carrying::carry_all;
+pub use layout::LaneEnds;
+pub use member::Member;
+pub use merging::merge;
+pub use round::{RoundLog, logs_of};
+pub use team::{Team, dismiss, make_all};

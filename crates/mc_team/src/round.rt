@@ -85,8 +85,8 @@ fn refusal(end: &Option<RoundEnd>) -> Result<(), AllocError>
     }
 }
 
-// The log of each box.
-fn logs_of(alloc: Global, members: &[Member]) -> Result<Vec<Vec<Logged>>, AllocError>
+/// A copy of the log of each box. It fails only for want of memory.
+pub fn logs_of(alloc: Global, members: &[Member]) -> Result<Vec<Vec<Logged>>, AllocError>
     ensures { IfOk result (λ logs. log_lists logs.items ≡ round_logs members.now) }
 {
     let mut logs = Vec::with_capacity(alloc, members.len())?;

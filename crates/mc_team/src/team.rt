@@ -110,8 +110,9 @@ impl Team {
     }
 }
 
-// The boxes of a team, of the boxes, channels and lanes of these parts, which keep the tables.
-fn make_all(alloc: Global, frame: &mut Parts) -> Result<TeamBoxes, AllocError>
+/// The boxes of a team, of the boxes, channels and lanes of these parts, which keep the tables. It fails only for want
+/// of memory; boxes, channels and lanes are gone then.
+pub fn make_all(alloc: Global, frame: &mut Parts) -> Result<TeamBoxes, AllocError>
     requires frame { HasFrame frame.old (length frame.old.boxes.items) }
     requires sound { IsSound (parts_state frame.old) }
     requires few { length frame.old.boxes.items ≤ TEAM_LIMIT }
@@ -125,8 +126,9 @@ fn make_all(alloc: Global, frame: &mut Parts) -> Result<TeamBoxes, AllocError>
     make(alloc, boxes, channels, lanes)
 }
 
-// The world of a team.
-fn dismiss(alloc: Global, frame: Parts, team: TeamBoxes) -> Result<World, AllocError>
+/// The world of a team, with the tables of these parts. Commands that are left are lost. It fails only for want of
+/// memory.
+pub fn dismiss(alloc: Global, frame: Parts, team: TeamBoxes) -> Result<World, AllocError>
     requires team { IsTeam team }
     requires frame { FitsTeam frame team }
     ensures { IfOk result (λ world. world ≡ (team_state team).world) }
