@@ -93,19 +93,19 @@ box_worked member began free desk set ran calm = elim ran.on.come [
 
 -- ---- all boxes
 
-zip_there : {X Y : Type 0} (R : X → Y → Type 0) (xs : List X) (ys : List Y) (k : ℕ) (x : X) → AllZip R xs ys → slice_get xs k ≡ Some x → (y : Y) × (slice_get ys k ≡ Some y) × R x y
+pub zip_there : {X Y : Type 0} (R : X → Y → Type 0) (xs : List X) (ys : List Y) (k : ℕ) (x : X) → AllZip R xs ys → slice_get xs k ≡ Some x → (y : Y) × (slice_get ys k ≡ Some y) × R x y
 zip_there R [] ys k x all at = absurd (cc)
 zip_there R (w ∷ xs) [] k x all at = absurd all
 zip_there R (w ∷ xs) (y ∷ ys) zero x all at = let same : w ≡ x = cc in (y, refl, subst (λ v. R v y) same all.0)
 zip_there R (w ∷ xs) (y ∷ ys) (suc k) x all at = zip_there R xs ys k x all.1 at
 
-zip_count : {X Y : Type 0} (R : X → Y → Type 0) (xs : List X) (ys : List Y) → AllZip R xs ys → length ys ≡ length xs
+pub zip_count : {X Y : Type 0} (R : X → Y → Type 0) (xs : List X) (ys : List Y) → AllZip R xs ys → length ys ≡ length xs
 zip_count R [] [] all = omega arith
 zip_count R [] (y ∷ ys) all = absurd all
 zip_count R (x ∷ xs) [] all = absurd all
 zip_count R (x ∷ xs) (y ∷ ys) all = let rest = zip_count R xs ys all.1 in omega (arith, rest)
 
-three_count : {X Y Z : Type 0} (R : X → Y → Z → Type 0) (xs : List X) (ys : List Y) (zs : List Z) → AllThree R xs ys zs → length zs ≡ length ys
+pub three_count : {X Y Z : Type 0} (R : X → Y → Z → Type 0) (xs : List X) (ys : List Y) (zs : List Z) → AllThree R xs ys zs → length zs ≡ length ys
 three_count R [] [] [] all = omega arith
 three_count R (x ∷ xs) (y ∷ ys) (z ∷ zs) all = let rest = three_count R xs ys zs all.1 in omega (arith, rest)
 three_count R [] [] (z ∷ zs) all = absurd all
@@ -113,7 +113,7 @@ three_count R [] (y ∷ ys) zs all = absurd all
 three_count R (x ∷ xs) [] zs all = absurd all
 three_count R (x ∷ xs) (y ∷ ys) [] all = absurd all
 
-three_at : {X Y Z : Type 0} (R : X → Y → Z → Type 0) (xs : List X) (ys : List Y) (zs : List Z) (k : ℕ) (y : Y) (z : Z) → AllThree R xs ys zs → slice_get ys k ≡ Some y → slice_get zs k ≡ Some z → (x : X) × R x y z
+pub three_at : {X Y Z : Type 0} (R : X → Y → Z → Type 0) (xs : List X) (ys : List Y) (zs : List Z) (k : ℕ) (y : Y) (z : Z) → AllThree R xs ys zs → slice_get ys k ≡ Some y → slice_get zs k ≡ Some z → (x : X) × R x y z
 three_at R [] [] [] k y z all p q = absurd (cc)
 three_at R (x ∷ xs) (v ∷ ys) (w ∷ zs) zero y z all p q =
     let one : v ≡ y = cc in
@@ -125,24 +125,24 @@ three_at R [] (v ∷ ys) zs k y z all p q = absurd all
 three_at R (x ∷ xs) [] zs k y z all p q = absurd all
 three_at R (x ∷ xs) (v ∷ ys) [] k y z all p q = absurd all
 
-all_at : {X : Type 0} (P : X → Type 0) (xs : List X) (k : ℕ) (x : X) → AllByRecursion P xs → slice_get xs k ≡ Some x → P x
+pub all_at : {X : Type 0} (P : X → Type 0) (xs : List X) (k : ℕ) (x : X) → AllByRecursion P xs → slice_get xs k ≡ Some x → P x
 all_at P [] k x all at = absurd (cc)
 all_at P (w ∷ xs) zero x all at = let same : w ≡ x = cc in subst P same all.0
 all_at P (w ∷ xs) (suc k) x all at = all_at P xs k x all.1 at
 
 -- the member at a place is that of the box that ran there
-member_at : (free : List BoxRun) (k : ℕ) (member : Member) → slice_get (map member_of free) k ≡ Some member → (own : BoxRun) × (slice_get free k ≡ Some own) × (member_of own ≡ member)
+pub member_at : (free : List BoxRun) (k : ℕ) (member : Member) → slice_get (map member_of free) k ≡ Some member → (own : BoxRun) × (slice_get free k ≡ Some own) × (member_of own ≡ member)
 member_at [] k member at = absurd (cc)
 member_at (own ∷ free) zero member at = let same : member_of own ≡ member = cc in (own, refl, same)
 member_at (own ∷ free) (suc k) member at = member_at free k member at
 
-member_there : (free : List BoxRun) (k : ℕ) (own : BoxRun) → slice_get free k ≡ Some own → slice_get (map member_of free) k ≡ Some (member_of own)
+pub member_there : (free : List BoxRun) (k : ℕ) (own : BoxRun) → slice_get free k ≡ Some own → slice_get (map member_of free) k ≡ Some (member_of own)
 member_there [] k own at = absurd (cc)
 member_there (first ∷ free) zero own at = let same : first ≡ own = cc in ap (λ (f : BoxRun). Some (member_of f)) same
 member_there (first ∷ free) (suc k) own at = member_there free k own at
 
 -- what is known of the turns of the box at a place
-abbrev TellsAt : List BoxRun → ℕ → Member → Member → List Claimed → Type 0
+abbrev pub TellsAt : List BoxRun → ℕ → Member → Member → List Claimed → Type 0
 TellsAt free who a c log = (own : BoxRun) → slice_get free who ≡ Some own → IsTold own log
 
 told_at : (free : List BoxRun) (who : ℕ) (own : BoxRun) (a c : Member) (log : List Claimed) → slice_get free who ≡ Some own → IsTold own log → TellsAt free who a c log
@@ -159,7 +159,7 @@ each_worked old desks began free who a c set ran calm p q =
     let worked = box_worked a first.0 own three.0 first.2 three.1 memory in
     (worked.0, worked.1, subst (λ (m : Member). HasWorked a m worked.0 worked.1) last.2 worked.2, told_at free who own a c worked.1 last.1 worked.3)
 
-have_worked : (old : List Member) (desks : List Desk) (began free : List BoxRun) → AreSetFree old began → HaveRunFreely desks began free → NoneRefused free → HaveWorked (TellsAt free) old (map member_of free)
+pub have_worked : (old : List Member) (desks : List Desk) (began free : List BoxRun) → AreSetFree old began → HaveRunFreely desks began free → NoneRefused free → HaveWorked (TellsAt free) old (map member_of free)
 have_worked old desks began free set ran calm = record {
   count = length-map free member_of ∙ (three_count HasRunFreely desks began free ran ∙ zip_count IsSetFree old began set);
   each = λ who a c p q. each_worked old desks began free who a c set ran calm p q;

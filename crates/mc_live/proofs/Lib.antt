@@ -3,4 +3,4 @@ mod Joining
 mod Stepping
 mod Asks
 mod Ends
-mod Freed
+pub mod Freed
