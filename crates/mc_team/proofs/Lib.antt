@@ -28,7 +28,6 @@ mod RoundLogs
 mod RoundMade
 mod RoundMembers
 mod RoundRuns
-mod RoundStamps
 mod RoundStops
 mod RoundStrange
 mod RoundTurns
@@ -45,4 +44,6 @@ mod TeamAdded
 mod TeamLogs
 mod TunnelsPlaced
 pub mod TurnsRun
+pub mod TurnsStamps
+pub mod TurnsStrange
 mod Whole

@@ -12,7 +12,7 @@ use Rattle.mc_team.proofs.Stands.{MadeNone, MadeOne, waiting_on}
 use Rattle.mc_team.proofs.RoundStops.{ends_box, moved, stopped, turns_made}
 use Rattle.mc_team.proofs.Lists.{at_some}
 use Rattle.mc_port.specs.Entries.{Claimed}
-use Rattle.mc_team.proofs.RoundStrange.{strange_never}
+use Rattle.mc_team.proofs.RoundStrange.{never_strange}
 use Rattle.mc_team.proofs.TurnsRun.{turns_own, turns_run}
 use Rattle.mc_team.proofs.RoundTurns.{AreOwn, BoxAccount, commands_used, idle_account, retries_counted, round_account, shifts_made}
 use Rattle.mc_team.specs.Teams.{HasTeamWork, team_of, shifts_at, stimuli_at, world_of}
@@ -160,7 +160,7 @@ ends_made {retries = retries} {channels = channels} {lanes = lanes} {ends = ends
     (turns_made retries member.b member.c one.ran (has_work retries member.b.worker boxes (waiting_on retries member.a.worker member.b.worker member.kept one.works)) rests)
     work (own_turns r who) (account r who) (stimuli_is channels old lanes who member.a member.at_first ∙ sym (ap (λ q. q.items) member.kept.stimuli)))
     (stopped retries member.b member.c one.ran) e.calm
-    (λ end tunnel strange. strange_never r who end tunnel member one strange)
+    (λ end tunnel strange. never_strange r who end tunnel member one strange)
     e.stimuli e.part)
 
 -- for another it had no work
