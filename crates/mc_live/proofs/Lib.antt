@@ -3,4 +3,7 @@ mod Joining
 mod Stepping
 mod Asks
 mod Ends
+mod Counts
+mod Counted
 pub mod Freed
+mod Left

@@ -5,4 +5,5 @@ pub mod Courses
 pub mod BoxRuns
 pub mod Askers
 pub mod Ends
+pub mod Counts
 pub mod Phases
