@@ -1,0 +1,5 @@
+pub mod Lists
+mod DesksSoFar
+mod Columns
+mod DealtSoFar
+mod EachLeft
