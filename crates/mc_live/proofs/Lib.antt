@@ -1,9 +1,9 @@
 mod Halving
 mod Joining
 mod Stepping
-mod Asks
-mod Ends
+pub mod Asks
+pub mod Ends
 mod Counts
 mod Counted
 pub mod Freed
-mod Left
+pub mod Left
