@@ -1,0 +1,4 @@
+pub mod Counts
+pub mod Shaped
+pub mod Same
+pub mod Growing

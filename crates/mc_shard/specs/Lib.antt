@@ -1,0 +1,5 @@
+pub mod Journals
+pub mod States
+pub mod Shards
+pub mod Refusals
+pub mod Same

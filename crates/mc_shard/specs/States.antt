@@ -1,0 +1,122 @@
+-- The state of a shard, and which entries may follow it: the state is a function of the first one and of the journal.
+use Rattle.std.specs.Prelude.{◌≡◌, ℕ, ◌+◌, ◌<◌, List, [], ◌∷◌, ◌++◌, length, slice_get, slice_index_or, slice_set, Option, Some, None}
+use Rattle.std.specs.Option.{option_map, unwrap_or}
+use Rattle.mc_signal.specs.declared.Signal.{Signal}
+use Rattle.mc_box.specs.BoxEvents.{BoxStep, box_event}
+use Rattle.mc_box.specs.Boxes.{BoxState, no_box}
+use Rattle.mc_box.specs.declared.event.Event.{Event}
+use Rattle.mc_box.specs.declared.event.Event.TheVariants.{Take}
+use Rattle.mc_shard.specs.Journals.{EntryState, taken_list}
+use Rattle.mc_shard.specs.declared.entry.AtEnd.{AtEnd}
+
+-- for each box of the shard, and each of its slots, the channel end at which the slot is, by its number in the shard,
+-- and its tunnel there
+abbrev pub Places : Type 0
+Places = List (List (ℕ × ℕ))
+
+abbrev pub places_of : Places → ℕ → List (ℕ × ℕ)
+places_of places who = slice_index_or places who []
+
+-- ---- states
+
+-- boxes; the stamp of the last turn; and for each end how many signals were sent there, and taken
+pub record ShardState : Type 0 where
+  pub boxes : List BoxState
+  pub stamp : ℕ
+  pub sent : List ℕ
+  pub taken : List ℕ
+
+abbrev pub box_in : ShardState → ℕ → BoxState
+box_in state who = slice_index_or state.boxes who no_box
+
+abbrev pub count_at : List ℕ → ℕ → ℕ
+count_at counts end = slice_index_or counts end 0
+
+-- one more at an end
+abbrev pub raised : List ℕ → ℕ → List ℕ
+raised counts end = slice_set counts end (count_at counts end + 1)
+
+-- and one more for each of these
+abbrev pub raised_all : List ℕ → List AtEnd → List ℕ
+raised_all counts [] = counts
+raised_all counts (one ∷ rest) = raised_all (raised counts one.end) rest
+
+-- each has the next number of its end
+abbrev pub AreNext : List ℕ → List AtEnd → Type 0
+AreNext counts [] = Unit {0}
+AreNext counts (one ∷ rest) = (one.item.number ≡ count_at counts one.end + 1) × AreNext (raised counts one.end) rest
+
+-- ---- what a box sends, as its journal has it
+
+-- a signal at the place of its slot, with the next number there. A slot without a place sends nothing
+abbrev pub numbered_if : Option (ℕ × ℕ) → ℕ → List ℕ → Signal → List AtEnd
+numbered_if None stamp counts signal = []
+numbered_if (Some place) stamp counts signal = record {
+  end = place.0;
+  item = record { number = count_at counts place.0 + 1; stamp = stamp; tunnel = place.1; signal = signal };
+} ∷ []
+
+-- the signals of a turn at the places of their slots, each with the next number there and with the stamp of the turn
+abbrev pub numbered : List (ℕ × ℕ) → ℕ → List ℕ → List (ℕ × Signal) → List AtEnd
+numbered places stamp counts [] = []
+numbered places stamp counts (sending ∷ rest) =
+    let here = numbered_if (slice_get places sending.0) stamp counts sending.1 in
+    here ++ numbered places stamp (raised_all counts here) rest
+
+-- ---- entries
+
+abbrev pub signal_of : Option AtEnd → Option Signal
+signal_of taken = option_map (λ one. one.item.signal) taken
+
+-- what is taken is at the place of the slot that takes it, and nothing else takes
+abbrev pub FitsEnd : List (ℕ × ℕ) → Event → AtEnd → Type 0
+FitsEnd places (Take local) one = slice_get places local ≡ Some (one.end, one.item.tunnel)
+FitsEnd places event one = ⊥
+
+abbrev pub FitsPlaces : List (ℕ × ℕ) → Event → Option AtEnd → Type 0
+FitsPlaces places event None = Unit {0}
+FitsPlaces places event (Some one) = FitsEnd places event one
+
+-- what is taken was sent with a lower stamp
+abbrev pub IsAbove : Option AtEnd → ℕ → Type 0
+IsAbove None stamp = Unit {0}
+IsAbove (Some one) stamp = one.item.stamp < stamp
+
+-- what the event of an entry does to its box, and nothing where it can't happen
+abbrev pub step_in : ShardState → EntryState → BoxStep
+step_in state entry = unwrap_or (box_event (box_in state entry.who) entry.event (signal_of entry.taken))
+    (record { sent = []; after = box_in state entry.who })
+
+-- the entry is what its box makes of its event: what the box sends stands in the same entry, with the next numbers;
+-- what it takes is the next of its lane; and the stamp is above that of the turn before, and above that with which what
+-- it takes was sent
+pub record MayFollow (places : Places) (state : ShardState) (entry : EntryState) : Type 0 where
+  pub here : entry.who < length state.boxes
+  pub goes : box_event (box_in state entry.who) entry.event (signal_of entry.taken) ≡ Some (step_in state entry)
+  pub sent : entry.sent ≡ numbered (places_of places entry.who) entry.stamp state.sent (step_in state entry).sent
+  pub next : AreNext state.taken (taken_list entry.taken)
+  pub fits : FitsPlaces (places_of places entry.who) entry.event entry.taken
+  pub rises : state.stamp < entry.stamp
+  pub above : IsAbove entry.taken entry.stamp
+
+-- the state after an entry
+abbrev pub after_entry : ShardState → EntryState → ShardState
+after_entry state entry = record {
+  boxes = slice_set state.boxes entry.who (step_in state entry).after;
+  stamp = entry.stamp;
+  sent = raised_all state.sent entry.sent;
+  taken = raised_all state.taken (taken_list entry.taken);
+}
+
+-- ---- journals
+
+-- the state that a journal tells
+abbrev pub state_after : ShardState → List EntryState → ShardState
+state_after state [] = state
+state_after state (entry ∷ entries) = state_after (after_entry state entry) entries
+
+-- each entry may follow those before it
+abbrev pub IsJournal : Places → ShardState → List EntryState → Type 0
+IsJournal places state [] = Unit {0}
+IsJournal places state (entry ∷ entries) = MayFollow places state entry
+    × IsJournal places (after_entry state entry) entries

@@ -1,0 +1,18 @@
+//! Shards: boxes that are owned, journalled and begun again as one, whose journal is also what they send.
+#![tactic(auto)]
+
+mod acting;
+mod entry;
+pub mod limit;
+mod numbering;
+mod parts;
+mod places;
+mod refused;
+mod replaying;
+mod shard;
+mod taking;
+
+pub use entry::{AtEnd, Entry, Numbered};
+pub use places::SlotPlaces;
+pub use refused::{Refused, ReplayFault};
+pub use shard::Shard;

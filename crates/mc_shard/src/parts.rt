@@ -1,0 +1,49 @@
+// The parts of a shard.
+
+ghost use Rattle.std.specs.Prelude.{◌≡◌, length, IfOk};
+ghost use Rattle.mc_shard.specs.Shards.{AreLaid, IsShaped, first_state, shard_of};
+
+use crate::places::SlotPlaces;
+use mc_box::MediaBox;
+use std::alloc::{AllocError, Global};
+
+/// Boxes, with the places of their slots; for each channel end its box, and how many signals were sent and taken there;
+/// and the stamp of the last turn.
+#[derive(Drop)]
+pub struct ShardParts {
+    pub boxes: Vec<MediaBox>,
+    pub places: Vec<SlotPlaces>,
+    pub owners: Vec<u32>,
+    pub sent: Vec<u64>,
+    pub taken: Vec<u64>,
+    pub stamp: u64,
+}
+
+impl ShardParts {
+    /// The parts of a shard that made no turn yet.
+    pub fn new(
+        alloc: Global,
+        boxes: Vec<MediaBox>,
+        places: Vec<SlotPlaces>,
+        owners: Vec<u32>,
+    ) -> Result<ShardParts, AllocError>
+        requires { AreLaid boxes.items places.items owners.items }
+        ensures shaped { IfOk result (λ made. IsShaped (shard_of made)) }
+        ensures is { IfOk result (λ made. shard_of made ≡ record {
+          places = places.items;
+          owners = owners.items;
+          state = first_state boxes.items (length owners.items);
+        }) }
+    {
+        let sent = vec![in alloc; 0; owners.len()]?;
+        let taken = vec![in alloc; 0; owners.len()]?;
+        Ok(ShardParts {
+            boxes,
+            places,
+            owners,
+            sent,
+            taken,
+            stamp: 0,
+        })
+    }
+}
