@@ -1,0 +1,6 @@
+pub mod Logs
+pub mod Together
+pub mod Growth
+pub mod Merged
+pub mod Sound
+pub mod Worked
