@@ -1,0 +1,4 @@
+pub mod Answering
+pub mod BytesBehind
+pub mod Explaining
+pub mod Told

@@ -1,0 +1,6 @@
+pub mod Answers
+pub mod Behind
+pub mod Calls
+pub mod Printed
+pub mod Reasons
+pub mod Statuses
