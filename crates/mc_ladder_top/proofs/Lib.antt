@@ -1,3 +1,4 @@
 pub mod Asked
 pub mod EndsDrawing
+pub mod Standing
 pub mod Taking

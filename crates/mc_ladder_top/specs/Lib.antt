@@ -1,4 +1,5 @@
 pub mod Drawn
+pub mod Faulty
 pub mod Requests
 pub mod Top
 pub mod Words

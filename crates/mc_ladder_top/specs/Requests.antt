@@ -1,16 +1,18 @@
 -- What is asked for, and what it chooses in a network.
-use Rattle.std.specs.Prelude.{ℕ, List, Option, filter_map, find, is_none, map}
+use Rattle.std.specs.Prelude.{ℕ, Bool, List, Option, filter_map, find, is_none, map}
 use Rattle.mc_ladder_choice.specs.declared.choice.Span.{Span}
 use Rattle.mc_ladder_choice.specs.Choices.{ChoiceState}
 use Rattle.mc_text.specs.NameLists.{NameLists, place_of}
 use Rattle.mc_ladder_top.specs.declared.picture.Picture.{Picture}
 use Rattle.mc_ladder_top.specs.declared.words.Request.{Request}
 
--- the form of the ladder, the settles that are drawn, where not all, and the names of the boxes, where not all
+-- the form of the ladder, the settles that are drawn, where not all, the names of the boxes, where not all, and whether
+-- a faulty journal is drawn up to its first fault
 pub record Requested : Type 0 where
   pub picture : Picture
   pub settles : Option Span
   pub names : List (List ℕ)
+  pub up_to_fault : Bool
 
 -- the same as the words have it
 abbrev pub asked : Request → Requested
@@ -18,6 +20,7 @@ asked request = record {
   picture = request.picture;
   settles = request.settles;
   names = map (λ name. name.now) request.boxes.items;
+  up_to_fault = request.up_to_fault;
 }
 
 -- the number of the box with a name, if there is one

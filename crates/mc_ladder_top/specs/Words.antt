@@ -1,6 +1,5 @@
 -- What the words of the command line ask for.
-use Rattle.std.specs.Prelude.{◌≡◌, ◌≢◌, ◌+◌, ◌==◌, ◌&&◌, ℕ, Bool, true, false, if◌then◌else◌, List, [], ◌∷◌, ◌++◌, None, Some, String}
-use Rattle.std.specs.Prelude.{codes, drop, map, nat_le, nat_lt, option_map, position, string_bytes, take}
+use Rattle.std.specs.Prelude.{◌≡◌, ◌≢◌, ◌+◌, ◌==◌, ◌&&◌, ℕ, Bool, true, false, if◌then◌else◌, List, [], ◌∷◌, ◌++◌, None, Some, String, codes, drop, map, nat_le, nat_lt, option_map, position, string_bytes, take}
 use Rattle.std.specs.Option.{unwrap_or}
 use Rattle.std.specs.declared.alloc.Global.{Global}
 use Rattle.std.specs.declared.option.Option.{Option}
@@ -21,12 +20,13 @@ flag name = record (new_rule name) { long = Some name; action = Some Count }
 abbrev pub valued : Text → Rule
 valued name = record (new_rule name) { long = Some name; action = Some Append }
 
--- the program's command line: three counted flags and two options, without help
+-- the program's command line: four counted flags and two options, without help
 abbrev pub ladder_command : App
 ladder_command =
     let named = new_app (codes "medialadder") in
     let bare : App = record named { top = record named.top { no_binary_name = true; disable_help_flag = true } } in
-    let flags = with_rule (with_rule (with_rule bare (flag (codes "ascii"))) (flag (codes "svg"))) (flag (codes "html")) in
+    let forms = with_rule (with_rule (with_rule bare (flag (codes "ascii"))) (flag (codes "svg"))) (flag (codes "html")) in
+    let flags = with_rule forms (flag (codes "up-to-fault")) in
     with_rule (with_rule flags (valued (codes "settles"))) (valued (codes "box"))
 
 -- a flag was met
@@ -75,11 +75,16 @@ settles_of (word ∷ other ∷ words) = None
 
 -- ---- all words
 
-abbrev pub request_by : Option Picture → Option (Option Span) → (names : List Text) → Option Requested
-request_by None settles names = None
-request_by (Some picture) None names = None
-request_by (Some picture) (Some settles) names =
-    Some (record { picture = picture; settles = settles; names = names })
+abbrev pub request_by : Option Picture → Option (Option Span) → (names : List Text) → (up_to_fault : Bool)
+    → Option Requested
+request_by None settles names up_to_fault = None
+request_by (Some picture) None names up_to_fault = None
+request_by (Some picture) (Some settles) names up_to_fault =
+    Some (record { picture = picture; settles = settles; names = names; up_to_fault = up_to_fault })
+
+-- they ask for what stands before the first fault of a journal
+abbrev pub asks_up_to_fault : List Text → Bool
+asks_up_to_fault words = asks_for (codes "up-to-fault") words
 
 -- what words ask for that the command line takes
 abbrev pub request_of : List Text → Option Requested
@@ -88,6 +93,7 @@ request_of words =
     (picture_of (asks_for (codes "ascii") words) (asks_for (codes "svg") words) (asks_for (codes "html") words))
     (settles_of (values_of (codes "settles") words))
     (values_of (codes "box") words)
+    (asks_up_to_fault words)
 
 -- the words are those of the command line, and ask for this, if for anything
 abbrev pub AskForAny : List Text → Option Requested → Type 0
@@ -105,16 +111,25 @@ AreTaken words = (request : Requested) × AskFor words request
 
 -- all of a journal, in this form
 abbrev pub all_as : Picture → Option Requested
-all_as picture = Some (record { picture = picture; settles = None; names = [] })
+all_as picture = Some (record { picture = picture; settles = None; names = []; up_to_fault = false })
 
 -- from one settle to another, in this form
 abbrev pub settles_as : Picture → (first last : ℕ) → Option Requested
 settles_as picture first last =
-    Some (record { picture = picture; settles = Some (record { first = first; last = last }); names = [] })
+    Some (record {
+      picture = picture;
+      settles = Some (record { first = first; last = last });
+      names = [];
+      up_to_fault = false;
+    })
 
 -- of these boxes, in this form
 abbrev pub boxes_as : Picture → (names : List Text) → Option Requested
-boxes_as picture names = Some (record { picture = picture; settles = None; names = names })
+boxes_as picture names = Some (record { picture = picture; settles = None; names = names; up_to_fault = false })
+
+-- all of a journal up to its first fault, in this form
+abbrev pub up_to_fault_as : Picture → Option Requested
+up_to_fault_as picture = Some (record { picture = picture; settles = None; names = []; up_to_fault = true })
 
 -- the flag for ASCII twice, and after it the word that ends the flags
 abbrev pub flag_twice : List Text
@@ -158,3 +173,10 @@ pub record WordsAskForBoxes : Type 0 where
   pub two : AskForAny (of_box (codes "pc") ++ of_box (codes "voice"))
       (boxes_as (AsText Utf8) (codes "pc" ∷ codes "voice" ∷ []))
   pub no_name : fault_of ladder_command (codes "--box" ∷ []) ≢ []
+
+-- a flag asks for what stands before the first fault of a journal, also where it stands twice, and in each form
+pub record WordsAskUpToFault : Type 0 where
+  pub one : AskForAny (codes "--up-to-fault" ∷ []) (up_to_fault_as (AsText Utf8))
+  pub twice : AskForAny (codes "--up-to-fault" ∷ codes "--up-to-fault" ∷ []) (up_to_fault_as (AsText Utf8))
+  pub html : AskForAny (codes "--html" ∷ codes "--up-to-fault" ∷ []) (up_to_fault_as Page)
+  pub value : fault_of ladder_command (codes "--up-to-fault=3" ∷ []) ≢ []

@@ -12,7 +12,7 @@ ghost use Rattle.mc_model.specs.Shapes.{AreAllAllowed};
 ghost use Rattle.mc_net.specs.Nets.{DeclaresBlocks, DeclaresNet, NamesAll, batch_turns};
 ghost use Rattle.mc_net.specs.declared.net.Net.{Net};
 ghost use Rattle.mc_replay.specs.Journals.{IsJournal};
-ghost use Rattle.mc_top.specs.Behind.{HasJournal};
+ghost use Rattle.mc_call.specs.Behind.{HasJournal};
 ghost use Rattle.mc_top.specs.Refusals.{RefusesCheckBy};
 
 use crate::choosing::choice_of;
@@ -61,7 +61,7 @@ pub fn draw_checked(
 
 // Draws the journal after a text. The check has used up the network that was read for it, so the text is read anew: once
 // to look through the journal, once to draw the ladder, and once for the page round it, if there is one.
-fn draw_journal(
+pub fn draw_journal(
     alloc: Global,
     request: &Request,
     text: &[u8],
@@ -203,9 +203,10 @@ fn page_by_net(
 }
 
 // The network of a text in the grammar.
-fn net_of(alloc: Global, text: &[u8]) -> Result<Net, AllocError>
+pub fn net_of(alloc: Global, text: &[u8]) -> Result<Net, AllocError>
     requires { IsInGrammar text.now }
-    ensures { IfOk result (DeclaresNet Journal text.now) }
+    ensures declares { IfOk result (DeclaresNet Journal text.now) }
+    ensures allowed { IfOk result (λ net. AreAllAllowed net.world (map batch_turns net.batches.items)) }
 {
     match read_net(alloc, text, Tail::Journal) {
         Ok(net) => Ok(net),

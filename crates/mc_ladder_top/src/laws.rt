@@ -1,6 +1,6 @@
 //! Laws of the program's words, over the definitions alone: each function's contract is the law's sentence.
 
-ghost use Rattle.mc_ladder_top.specs.Words.{WordsAskForBoxes, WordsAskForPictures, WordsAskForSettles};
+ghost use Rattle.mc_ladder_top.specs.Words.{WordsAskForBoxes, WordsAskForPictures, WordsAskForSettles, WordsAskUpToFault};
 
 /// Without words a ladder is drawn in UTF-8, with the flag `--ascii` in ASCII, with `--svg` as SVG, and with `--html` as
 /// a page, however often the flag stands there; a `--` after it says nothing. Two of these flags together ask for nothing.
@@ -19,4 +19,10 @@ pub fn words_ask_for_settles()
 /// what concerns one of these boxes. Without a name it isn't taken.
 pub fn words_ask_for_boxes()
     ensures { WordsAskForBoxes }
+{}
+
+/// The flag `--up-to-fault`, once or more often and beside any of the others, asks for a ladder of a faulty journal, too, up
+/// to its first fault. It takes no value.
+pub fn words_ask_up_to_fault()
+    ensures { WordsAskUpToFault }
 {}

@@ -4,6 +4,7 @@
 
 mod choosing;
 mod drawing;
+mod faulty;
 pub mod laws;
 mod picture;
 mod top;

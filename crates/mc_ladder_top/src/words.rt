@@ -14,19 +14,21 @@ use mc_ladder_choice::Span;
 use mc_text::read_number;
 use std::alloc::{AllocError, Global};
 
-/// What is asked for: the form of the ladder, the settles that are drawn, where not all, and the names of the boxes,
-/// where not all.
+/// What is asked for: the form of the ladder, the settles that are drawn, where not all, the names of the boxes, where
+/// not all, and whether a faulty journal is drawn up to its first fault.
 #[derive(Drop)]
 pub struct Request<'a> {
     pub picture: Picture,
     pub settles: Option<Span>,
     pub boxes: Vec<&'a str>,
+    pub up_to_fault: bool,
 }
 
 /// What the words ask for: a ladder as text in ASCII where the flag `--ascii` stands among them, once or more often, as
-/// SVG where the flag `--svg` does, as a page where the flag `--html` does, and else as text in UTF-8; after `--settles A-B` of the settles from A to B alone,
-/// which are counted from 1; after `--box NAME`, once or more often, of what concerns these boxes alone. None where two
-/// of these flags stand there, or another word; an error where memory is wanting.
+/// SVG where the flag `--svg` does, as a page where the flag `--html` does, and else as text in UTF-8; after
+/// `--settles A-B` of the settles from A to B alone, which are counted from 1; after `--box NAME`, once or more often, of
+/// what concerns these boxes alone; where `--up-to-fault` stands there, also of a faulty journal, up to its first fault.
+/// None where two of the first three flags stand there, or another word; an error where memory is wanting.
 pub fn read_request<'a>(
     alloc: Global,
     words: &'a [String],
@@ -41,7 +43,9 @@ pub fn read_request<'a>(
             let html = matches.get_count("html");
             let settles = settles_of(&values_of(alloc, &matches, "settles")?);
             let boxes = values_of(alloc, &matches, "box")?;
-            Ok(request_by(picture_of(ascii > 0, svg > 0, html > 0), settles, boxes))
+            let up_to_fault = matches.get_count("up-to-fault") > 0;
+            let picture = picture_of(ascii > 0, svg > 0, html > 0);
+            Ok(request_by(picture, settles, boxes, up_to_fault))
         }
         Err(error) => none_unless_memory(&error),
     }
@@ -63,13 +67,14 @@ fn valued<'a>(alloc: Global, name: &'a str) -> Arg<'a>
     Arg::new(alloc, name).long(name).action(ArgAction::Append)
 }
 
-// The command line: three counted flags and two options.
+// The command line: four counted flags and two options.
 fn ladder_command<'a>(alloc: Global) -> Result<Command<'a>, AllocError>
     ensures { IfOk result (λ command. app_of command ≡ ladder_command) }
 {
     let ascii = flag(alloc, "ascii");
     let svg = flag(alloc, "svg");
     let html = flag(alloc, "html");
+    let up_to_fault = flag(alloc, "up-to-fault");
     let settles = valued(alloc, "settles");
     let boxes = valued(alloc, "box");
     Command::new(alloc, "medialadder")
@@ -78,6 +83,7 @@ fn ladder_command<'a>(alloc: Global) -> Result<Command<'a>, AllocError>
         .arg(ascii)?
         .arg(svg)?
         .arg(html)?
+        .arg(up_to_fault)?
         .arg(settles)?
         .arg(boxes)
 }
@@ -160,9 +166,10 @@ fn request_by<'a>(
     picture: Option<Picture>,
     settles: Option<Option<Span>>,
     boxes: Vec<&'a str>,
+    up_to_fault: bool,
 ) -> Option<Request<'a>>
     ensures { option_map (λ request. asked request) result
-        ≡ request_by picture settles (map (λ name. name.now) boxes.entry.items) }
+        ≡ request_by picture settles (map (λ name. name.now) boxes.entry.items) up_to_fault }
 {
     let picture = picture?;
     let settles = settles?;
@@ -170,6 +177,7 @@ fn request_by<'a>(
         picture,
         settles,
         boxes,
+        up_to_fault,
     })
 }
 

@@ -13,9 +13,10 @@ mod scenes;
 mod threads;
 mod whys;
 
+use mc_call::Done;
 use mc_io::{Gate, MemSink, MemSource, OpenGate};
 use mc_script::JournalLine;
-use mc_top::{Done, media_top};
+use mc_top::media_top;
 use std::alloc::{AllocError, Global};
 use std::fmt::Debug;
 use std::process::Abort;

@@ -16,7 +16,7 @@ use Rattle.mc_top.specs.Journals.{IsJournalTo, ShowsCause}
 use Rattle.mc_settings.specs.Batches.{LeavesNoRing}
 use Rattle.mc_top.specs.Rings.{AlwaysRests}
 use Rattle.mc_laws.specs.Chains.{ClosesNoChain}
-use Rattle.mc_top.specs.Words.{RestsByWords}
+use Rattle.mc_grown_rest.specs.Rests.{RestsByWords}
 use Rattle.mc_laws.specs.Versions.{PassesLast}
 use Rattle.mc_model.specs.Settles.{hears_in}
 use Rattle.mc_seq.specs.declared.stopping.SettleStop.{SettleStop}

@@ -1,5 +1,5 @@
 -- How a run ends.
-use Rattle.std.proofs.Common.{◌≡◌, ◌≢◌, ◌⊎◌, ◌∙◌, ◌<◌, length, ℕ, Bool, true, false, List, [], map, inl, inr, refl, ap, sym, subst, arith, None, Some}
+use Rattle.std.proofs.Common.{◌≡◌, ◌⊎◌, ◌∙◌, ◌<◌, length, ℕ, Bool, true, false, List, [], map, inl, inr, refl, ap, sym, subst, arith, None, Some}
 use Rattle.std.specs.declared.option.Option.{Option}
 use Rattle.std.specs.Io.KnownBytes.{Keeps}
 use Rattle.mc_replay.specs.Journals.{HoldsAtSettles, IsJournal}
@@ -7,30 +7,34 @@ use Rattle.mc_replay.specs.Segments.{EachKeepsShiftLimit}
 use Rattle.mc_top.specs.Journals.{IsJournalTo, IsStoppedJournal, ShowsCause}
 use Rattle.mc_top.specs.Drawn.{FollowsDraws}
 use Rattle.mc_program_lines.proofs.Found.{found_within}
-use Rattle.mc_text.specs.NameLists.{place_of}
+use Rattle.mc_text.specs.NameLists.{place_of, NameLists}
 use Rattle.std.specs.Option.{unwrap_or}
 use Rattle.mc_top.specs.Shown.{HasNamedBox}
-use Rattle.mc_words.specs.Commands.{bytes_of, name_for}
+use Rattle.mc_words.specs.Commands.{bytes_of, name_for, prints_journal}
 use Rattle.mc_top.specs.Modes.{checks, draws_from, has_box, is_feature_at, output_of, report_of, tail_of}
 use Rattle.mc_model.specs.Sound.{IsSound}
 use Rattle.mc_model.specs.Worlds.{WorldState}
-use Rattle.mc_text.specs.NameLists.{NameLists}
 use Rattle.mc_net.specs.Nets.{DeclaresNet, batch_turns}
 use Rattle.mc_net.specs.Texts.{IsFault}
 use Rattle.mc_lines.specs.declared.tail.Tail.{Tail}
 use Rattle.mc_lines.specs.declared.tail.Tail.TheVariants.{Nothing, Journal}
 use Rattle.mc_net.specs.declared.net.Net.{Net}
 use Rattle.mc_replay.proofs.Holds.{journals_hold}
-use Rattle.mc_top.specs.Behind.{HasJournal, HasJournalFault}
-use Rattle.mc_top.specs.Printed.{checked_text, fault_line, journal_fault_line, journal_text, no_box_line, run_text, script_text, with_journal}
+use Rattle.mc_call.specs.Behind.{HasJournal, HasJournalFault}
+use Rattle.mc_top.specs.Printed.{checked_text, run_text, script_text, with_journal}
+use Rattle.mc_call.specs.Printed.{fault_line, journal_fault_line, no_box_line}
 use Rattle.mc_settle_text.specs.Stops.{stop_line}
-use Rattle.mc_top.specs.Statuses.{IsDueForText, due_by, keeps_journal, stop_status}
-use Rattle.mc_top.specs.Top.{Delivers, Ends, StopsScript, ToldJournal}
+use Rattle.mc_top.specs.Statuses.{IsDueForMode, IsDueForText}
+use Rattle.mc_call.specs.Statuses.{due_by, keeps_journal, stop_status}
+use Rattle.mc_call.specs.Answers.{Refuses}
+use Rattle.mc_call.specs.Calls.{Delivers, GivesUp}
+use Rattle.mc_call.specs.declared.done.Done.{Done}
+use Rattle.mc_call.proofs.Told.{keeps_same}
+use Rattle.mc_top.specs.Top.{Ends, EndsAs, StopsScript, ToldJournal}
 use Rattle.mc_script.specs.declared.command.JournalLine.{JournalLine}
 use Rattle.mc_top.specs.declared.report.Report.{Report}
 use Rattle.mc_seq.specs.declared.stopping.SettleStop.{SettleStop}
 use Rattle.mc_seq.specs.declared.stopping.SettleStop.TheVariants.{Restless, Ring, VersionEnd}
-use Rattle.mc_words.specs.Commands.{prints_journal}
 use Rattle.mc_words.specs.declared.words.Mode.{Mode}
 use Rattle.mc_words.specs.declared.words.Mode.TheVariants.{Check, Conf, Gen, One, Run, Scene}
 
@@ -155,10 +159,6 @@ ends_ran (Some stop) mode text net old new status due journal output runs declar
     ends_at_stop mode text stop old new status due journal due_is
     (stops_script mode text net stop old new status due journal output runs declared boxed sound ran drawn shows limit (is ∙ stopped_by (report_of mode net.names) (prints_journal mode) stop net.names net.world journal) due_is delivered)
 
-pub keeps_same : (old : Option (List ℕ)) → Keeps old old
-keeps_same None = tt
-keeps_same (Some bytes) = refl
-
 -- memory ran out, and nothing was written
 pub ends_gave_up : (mode : Mode) (text : List ℕ) (old : Option (List ℕ)) (status due : ℕ) (journal : List JournalLine)
     → status ≡ 3 → due ≡ 3 → journal ≡ [] → Ends mode (Some text) old old status due journal
@@ -172,18 +172,50 @@ ends_gave_up mode text old status due journal three due_three none = record {
   no_journal = λ some. none;
 }
 
--- the text has a fault, and the line that names it was delivered
-pub ends_refused : (mode : Mode) (text : List ℕ) (number line : ℕ) (old new : Option (List ℕ)) (status due : ℕ) (journal : List JournalLine) (output : List ℕ)
-    → IsFault (tail_of mode) text number line → output ≡ fault_line number line → due ≡ 1 → Delivers status 1 old new output → journal ≡ [] → Ends mode (Some text) old new status due journal
-ends_refused mode text number line old new status due journal output fault is one delivered none = record {
-  worked = λ zero. absurd (omega arith);
-  refused = λ due_one. inl (record { number = number; line = line; fault = fault; delivered = rw is at delivered; no_journal = none });
-  at_stop = λ either. absurd (grind (arith, either));
-  check_refused = λ eight. absurd (omega arith);
-  no_box = λ nine. absurd (omega arith);
-  gave_up = λ ended. elim ended [ inl three ↦ absurd (omega arith) | inr four ↦ absurd (omega arith) ];
+-- a refusal that lacked memory wrote nothing
+pub gave_by : (old new : Option (List ℕ)) (done : Done) → GivesUp old new done → (done.status ≡ done.due) × Keeps old new
+gave_by old new done (three, status, kept) = (status ∙ sym three, kept)
+
+pub ends_wanting : (mode : Mode) (text : List ℕ) (old new : Option (List ℕ)) (done : Done) → GivesUp old new done → done.journal.items ≡ [] → EndsAs mode (Some text) old new done
+ends_wanting mode text old new done gave none = let three : done.due ≡ 3 = gave.0 in record {
+  worked = λ zero. absurd (grind (arith, three, zero));
+  refused = λ one. absurd (grind (arith, three, one));
+  at_stop = λ either. absurd (grind (arith, three, either));
+  check_refused = λ eight. absurd (grind (arith, three, eight));
+  no_box = λ nine. absurd (grind (arith, three, nine));
+  gave_up = λ ended. gave_by old new done gave;
   no_journal = λ some. none;
 }
+
+-- the text has a fault, and the line that names it was delivered
+pub ends_refused : (mode : Mode) (text : List ℕ) (number line : ℕ) (old new : Option (List ℕ)) (done : Done)
+    → IsFault (tail_of mode) text number line → (done.due ≡ 1) ⊎ (done.due ≡ 3) → Refuses 1 (fault_line number line) old new done → EndsAs mode (Some text) old new done
+ends_refused mode text number line old new done fault dues refuses = record {
+  worked = λ zero. absurd (grind (arith, dues, zero));
+  refused = λ one. inl (record { number = number; line = line; fault = fault; delivered = refuses.delivered one; no_journal = refuses.no_journal });
+  at_stop = λ either. absurd (grind (arith, dues, either));
+  check_refused = λ eight. absurd (grind (arith, dues, eight));
+  no_box = λ nine. absurd (grind (arith, dues, nine));
+  gave_up = λ ended. elim ended [ inl three ↦ gave_by old new done (refuses.gave_up three) | inr four ↦ absurd (grind (arith, dues, four)) ];
+  no_journal = λ some. refuses.no_journal;
+}
+
+-- the statuses of refusals may be due for a text
+pub text_due : (due : ℕ) → (due ≡ 1) ⊎ (due ≡ 3) → IsDueForText due
+text_due due (inl one) = inr (inl one)
+text_due due (inr three) = inr (inr (inl three))
+
+pub journal_due : (due : ℕ) → (due ≡ 8) ⊎ (due ≡ 3) → IsDueForText due
+journal_due due (inl eight) = inr (inr (inr (inr (inr (inl eight)))))
+journal_due due (inr three) = inr (inr (inl three))
+
+pub box_due : (due : ℕ) → (due ≡ 9) ⊎ (due ≡ 3) → IsDueForText due
+box_due due (inl nine) = inr (inr (inr (inr (inr (inr nine)))))
+box_due due (inr three) = inr (inr (inl three))
+
+-- and those of a text for a mode
+pub mode_due : (due : ℕ) → IsDueForText due → IsDueForMode due
+mode_due due dues = grind (arith, dues)
 
 -- ---- a journal that is checked
 
@@ -210,39 +242,33 @@ ends_checked why text net old new status due journal output declared sound has s
 }
 
 -- it has a fault, and the line that names it was delivered
-pub ends_check_refused : (why : Bool) (text : List ℕ) (net : Net) (number turn : ℕ) (old new : Option (List ℕ)) (status due : ℕ) (journal : List JournalLine) (output : List ℕ)
-    → DeclaresNet Journal text net → HasJournalFault text net number turn → output ≡ journal_fault_line number turn → due ≡ 8 → Delivers status 8 old new output → journal ≡ []
-    → Ends (Check why) (Some text) old new status due journal
-ends_check_refused why text net number turn old new status due journal output declared fault is eight delivered none = record {
-  worked = λ zero. absurd (omega arith);
-  refused = λ one. absurd (omega arith);
-  at_stop = λ either. absurd (grind (arith, either));
-  check_refused = λ due_eight. (refl, record { net = net; number = number; turn = turn; declared = declared; fault = fault; delivered = rw is at delivered; no_journal = none });
-  no_box = λ nine. absurd (omega arith);
-  gave_up = λ ended. elim ended [ inl three ↦ absurd (omega arith) | inr four ↦ absurd (omega arith) ];
-  no_journal = λ some. none;
+pub ends_check_refused : (why : Bool) (text : List ℕ) (net : Net) (number turn : ℕ) (old new : Option (List ℕ)) (done : Done)
+    → DeclaresNet Journal text net → HasJournalFault text net number turn → (done.due ≡ 8) ⊎ (done.due ≡ 3) → Refuses 8 (journal_fault_line number turn) old new done
+    → EndsAs (Check why) (Some text) old new done
+ends_check_refused why text net number turn old new done declared fault dues refuses = record {
+  worked = λ zero. absurd (grind (arith, dues, zero));
+  refused = λ one. absurd (grind (arith, dues, one));
+  at_stop = λ either. absurd (grind (arith, dues, either));
+  check_refused = λ eight. (refl, record { net = net; number = number; turn = turn; declared = declared; fault = fault; delivered = refuses.delivered eight; no_journal = refuses.no_journal });
+  no_box = λ nine. absurd (grind (arith, dues, nine));
+  gave_up = λ ended. elim ended [ inl three ↦ gave_by old new done (refuses.gave_up three) | inr four ↦ absurd (grind (arith, dues, four)) ];
+  no_journal = λ some. refuses.no_journal;
 }
 
 -- ---- a box that isn't there
 
 -- no feature has its name, and the line that says so was delivered
-pub ends_no_box : (mode : Mode) (text : List ℕ) (net : Net) (names : NameLists) (world : WorldState) (old new : Option (List ℕ)) (status due : ℕ) (journal : List JournalLine) (output : List ℕ)
-    → DeclaresNet (tail_of mode) text net → net.names ≡ names → net.world ≡ world → has_box mode names world ≡ false → output ≡ no_box_line (name_for mode) → due ≡ 9 → Delivers status 9 old new output → journal ≡ []
-    → Ends mode (Some text) old new status due journal
-ends_no_box mode text net names world old new status due journal output declared named stands none is nine delivered kept = record {
-  worked = λ zero. absurd (omega arith);
-  refused = λ one. absurd (omega arith);
-  at_stop = λ either. absurd (grind (arith, either));
-  check_refused = λ eight. absurd (omega arith);
-  no_box = λ due_nine. record {
-    net = net;
-    declared = declared;
-    none = ap (λ (n : NameLists). has_box mode n net.world) named ∙ (ap (λ (w : WorldState). has_box mode names w) stands ∙ none);
-    delivered = rw is at delivered;
-    no_journal = kept;
-  };
-  gave_up = λ ended. elim ended [ inl three ↦ absurd (omega arith) | inr four ↦ absurd (omega arith) ];
-  no_journal = λ some. kept;
+pub ends_no_box : (mode : Mode) (text : List ℕ) (net : Net) (old new : Option (List ℕ)) (done : Done)
+    → DeclaresNet (tail_of mode) text net → has_box mode net.names net.world ≡ false → (done.due ≡ 9) ⊎ (done.due ≡ 3) → Refuses 9 (no_box_line (name_for mode)) old new done
+    → EndsAs mode (Some text) old new done
+ends_no_box mode text net old new done declared none dues refuses = record {
+  worked = λ zero. absurd (grind (arith, dues, zero));
+  refused = λ one. absurd (grind (arith, dues, one));
+  at_stop = λ either. absurd (grind (arith, dues, either));
+  check_refused = λ eight. absurd (grind (arith, dues, eight));
+  no_box = λ nine. record { net = net; declared = declared; none = none; delivered = refuses.delivered nine; no_journal = refuses.no_journal };
+  gave_up = λ ended. elim ended [ inl three ↦ gave_by old new done (refuses.gave_up three) | inr four ↦ absurd (grind (arith, dues, four)) ];
+  no_journal = λ some. refuses.no_journal;
 }
 
 -- the box of a conference has a name where it is there

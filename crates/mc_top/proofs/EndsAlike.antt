@@ -11,18 +11,20 @@ use Rattle.mc_net.specs.declared.net.Net.{Net}
 use Rattle.mc_replay.specs.Journals.{IsJournal}
 use Rattle.mc_replay.specs.Laws.{OneJournalFault}
 use Rattle.mc_script.specs.declared.command.JournalLine.{JournalLine}
-use Rattle.mc_top.specs.Behind.{HasJournal, HasJournalFault, has_bad_tail, tail_lines}
+use Rattle.mc_call.specs.Behind.{HasJournal, HasJournalFault, has_bad_tail, tail_lines}
 use Rattle.mc_top.specs.Drawn.{DrawnJournalIsOne, IsDrawnJournal}
 use Rattle.mc_top.specs.EndsAlike.{CheckEndsAlike, EndAlike, GoodIsNotRefused, Judges, OneEndsAlike, PrintAlike}
 use Rattle.mc_top.specs.Modes.{checks}
-use Rattle.mc_top.specs.Printed.{checked_text, fault_line, journal_fault_line, journal_text, run_text}
+use Rattle.mc_top.specs.Printed.{checked_text, run_text}
+use Rattle.mc_call.specs.Printed.{fault_line, journal_fault_line}
 use Rattle.mc_settle_text.specs.Stops.{stop_line}
-use Rattle.mc_top.specs.Statuses.{judges_text, stop_status}
-use Rattle.mc_top.specs.Top.{Delivers, Refused, RefusesCheck, StopsScript, Worked}
+use Rattle.mc_call.specs.Statuses.{judges_text, stop_status}
+use Rattle.mc_call.specs.Calls.{Delivers}
+use Rattle.mc_top.specs.Top.{Refused, RefusesCheck, StopsScript, Worked}
 use Rattle.mc_top.specs.declared.report.Report.TheVariants.{Paths}
-use Rattle.mc_top.specs.declared.status.TheConstants.{WORKED, FAULTY_TEXT, RESTLESS, RING, JOURNAL_FAULT, NO_BOX}
+use Rattle.mc_call.specs.declared.status.TheConstants.{WORKED, FAULTY_TEXT, RESTLESS, RING, JOURNAL_FAULT, NO_BOX}
 use Rattle.mc_seq.specs.declared.stopping.SettleStop.{SettleStop}
-use Rattle.mc_top.specs.declared.top.Done.{Done}
+use Rattle.mc_call.specs.declared.done.Done.{Done}
 use Rattle.mc_top.proofs.SeenNets.{Seen, declared_same, seen}
 use Rattle.mc_top.proofs.Told.{fault_of_same, good_has_none}
 use Rattle.mc_words.specs.declared.words.Mode.{Mode}

@@ -16,8 +16,8 @@ use Rattle.mc_scene_laws.proofs.GeneratedRests.{generated_are_unprogrammed, gene
 use Rattle.mc_settings.specs.Batches.{LeavesDecided}
 use Rattle.mc_top.specs.EndsAlike.{GenPrintsAlike, Judges}
 use Rattle.mc_top.specs.Modes.{IsWithinLimits, output_of}
-use Rattle.mc_top.specs.declared.status.TheConstants.{WORKED}
-use Rattle.mc_top.specs.declared.top.Done.{Done}
+use Rattle.mc_call.specs.declared.status.TheConstants.{WORKED}
+use Rattle.mc_call.specs.declared.done.Done.{Done}
 use Rattle.mc_top.proofs.EndsAlike.{judged_cases, print_alike}
 use Rattle.mc_top.proofs.MadeTexts.{generated_can_run}
 use Rattle.mc_top.proofs.TextAlone.{calls_print_same}

@@ -7,10 +7,10 @@ use Rattle.mc_net.specs.Nets.{batch_turns}
 use Rattle.mc_net.specs.declared.net.Net.{Net}
 use Rattle.mc_replay.specs.Journals.{IsJournal}
 use Rattle.mc_script.specs.declared.command.JournalLine.{JournalLine}
-use Rattle.mc_top.specs.Behind.{HasGoodJournal, has_bad_tail, is_too_long, journal_bytes, tail_lines}
+use Rattle.mc_call.specs.Behind.{HasGoodJournal, has_bad_tail, is_too_long, journal_bytes, tail_lines}
 use Rattle.mc_top.specs.JournalLaws.{PrintedJournalsAreGood}
 use Rattle.mc_top.specs.TextAlone.{SettlesText}
-use Rattle.mc_top.proofs.BytesBehind.{all_behind}
+use Rattle.mc_call.proofs.BytesBehind.{all_behind}
 use Rattle.mc_top.proofs.NamedJournals.{runs_are_read_back}
 use Rattle.mc_top.proofs.Told.{good_has_none}
 

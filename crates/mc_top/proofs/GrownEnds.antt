@@ -1,9 +1,6 @@
 -- How a script of a network that grows ends.
-use Rattle.std.proofs.Common.{◌≡◌, ◌⊎◌, ◌==◌, ◌≢◌, ◌≤◌, ℕ, List, [], length, map, Result, Option, Some, None, Ok, Err, IfOk, Vec, Global, false, ap, arith, inl, inr, refl, subst, sym, eq-eqb, true≢false, ◌∙◌}
+use Rattle.std.proofs.Common.{◌≡◌, ◌⊎◌, ◌==◌, ◌≢◌, ◌≤◌, ℕ, List, [], length, map, Result, Option, Some, None, Ok, Err, IfOk, false, ap, arith, inl, inr, refl, subst, sym, eq-eqb, true≢false, ◌∙◌}
 use Rattle.std.specs.declared.alloc.AllocError.{AllocError}
-use Rattle.std.specs.Io.KnownBytes.{Appends}
-use Rattle.mc_explain.specs.Reasons.{IsTextFault}
-use Rattle.mc_explain.specs.declared.reason.Reason.{Reason}
 use Rattle.mc_box.specs.declared.event.Turn.{Turn}
 use Rattle.mc_growth.specs.Growths.{GrownState, grown_by_all, grown_from}
 use Rattle.mc_growth.specs.Outs.{AreOut}
@@ -12,7 +9,6 @@ use Rattle.mc_grown_script.specs.ScriptRuns.{CameToEnd, EndsAs, EndsBy}
 use Rattle.mc_grown_script.specs.declared.stop.GrownStop.{GrownStop}
 use Rattle.mc_grown_script.specs.declared.stop.GrownStop.TheVariants.{Cut, Settle}
 use Rattle.mc_grown_script.specs.declared.stop.ScriptRun.{ScriptRun}
-use Rattle.mc_lines.specs.declared.detail.Detail.{Detail}
 use Rattle.mc_lines.specs.declared.tail.Tail.TheVariants.{Grow}
 use Rattle.mc_model.specs.Sound.{IsSound}
 use Rattle.mc_model.specs.Worlds.{WorldState}
@@ -30,15 +26,16 @@ use Rattle.mc_tail.specs.Tails.{DeclaresTail}
 use Rattle.mc_tail.specs.declared.item.Item.{Item}
 use Rattle.mc_tail.specs.declared.tail.TailText.{TailText}
 use Rattle.mc_text.specs.NameLists.{NameLists}
-use Rattle.mc_top.specs.Growing.{EndsGrown, IsDetailedFault, IsGrowingFault, IsGrowingFaultOf, IsGrowingFaultOfTold, MayBeRun, PrintsGrownStop, RanPlans, RanStages, StopsGrown}
-use Rattle.mc_top.specs.Printed.{fault_line}
-use Rattle.mc_top.specs.Reasons.{EndsFor, Explains, ExplainsDue, Told}
-use Rattle.mc_top.specs.Statuses.{IsDueForGrowing, grown_due_by, grown_stop_status, keeps_journal, stop_status}
-use Rattle.mc_top.specs.Top.{Delivers, IsTextOf}
-use Rattle.mc_top.specs.declared.status.TheConstants.{FAULTY_TEXT}
-use Rattle.mc_top.specs.declared.top.Done.{Done}
-use Rattle.mc_top.proofs.Ending.{keeps_same, kept_zero}
-use Rattle.mc_top.proofs.Explaining.{explains_delivered}
+use Rattle.mc_top.specs.Growing.{EndsGrown, EndsGrownAs, IsGrowingFault, IsGrowingFaultOf, IsGrowingFaultOfTold, MayBeRun, PrintsGrownStop, RanPlans, RanStages, StopsGrown}
+use Rattle.mc_call.specs.Printed.{fault_line}
+use Rattle.mc_call.specs.Answers.{Refuses}
+use Rattle.mc_call.specs.Reasons.{Told}
+use Rattle.mc_top.specs.Statuses.{IsDueForGrowing, grown_due_by, grown_stop_status}
+use Rattle.mc_call.specs.Statuses.{keeps_journal, stop_status}
+use Rattle.mc_call.specs.Calls.{Delivers, IsTextOf}
+use Rattle.mc_call.specs.declared.done.Done.{Done}
+use Rattle.mc_call.proofs.Told.{keeps_same}
+use Rattle.mc_top.proofs.Ending.{gave_by, kept_zero}
 use Rattle.mc_top.proofs.GrownTexts.{fault_told, planned_told}
 
 -- ---- want of memory, and a fault in reading
@@ -62,30 +59,21 @@ no_usage due dues usage = grind (arith, dues)
 -- ---- a faulty text
 
 -- the line that names the first fault was delivered
-pub grown_refused : (text : List ℕ) (number line : ℕ) (old new : Option (List ℕ)) (status due : ℕ) (journal : List JournalLine) (output : List ℕ)
-    → IsGrowingFault text number line → output ≡ fault_line number line → due ≡ 1 → Delivers status 1 old new output → journal ≡ []
-    → EndsGrown (Some text) old new status due journal
-grown_refused text number line old new status due journal output fault is one delivered none = record {
-  dues = inr (inl one);
-  worked = λ zero. absurd (omega arith);
-  refused = λ due_one. inl (record { number = number; line = line; fault = fault; delivered = rw is at delivered; no_journal = none });
-  at_stop = λ stops. absurd (grind (arith, stops));
-  gave_up = λ ended. absurd (grind (arith, ended));
-  no_journal = λ some. none;
+pub grown_refused : (text : List ℕ) (number line : ℕ) (old new : Option (List ℕ)) (done : Done)
+    → IsGrowingFault text number line → (done.due ≡ 1) ⊎ (done.due ≡ 3) → Refuses 1 (fault_line number line) old new done → EndsGrownAs (Some text) old new done
+grown_refused text number line old new done fault dues refuses = record {
+  dues = elim dues [ inl one ↦ inr (inl one) | inr three ↦ inr (inr (inl three)) ];
+  worked = λ zero. absurd (grind (arith, dues, zero));
+  refused = λ one. inl (record { number = number; line = line; fault = fault; delivered = refuses.delivered one; no_journal = refuses.no_journal });
+  at_stop = λ stops. absurd (grind (arith, dues, stops));
+  gave_up = λ ended. elim ended [ inl three ↦ gave_by old new done (refuses.gave_up three) | inr four ↦ absurd (grind (arith, dues, four)) ];
+  no_journal = λ some. refuses.no_journal;
 }
 
--- a fault with what else is known of it
-pub plain_fault : (text : List ℕ) (number line : ℕ) (detail : Detail) → IsDetailedFault text number line detail → IsGrowingFault text number line
-plain_fault text number line detail (inl (fault, known)) = inl fault
-plain_fault text number line detail (inr (head, fault, known)) = inr (head, fault)
-
--- it is told by its line
-pub explains_grown_fault : (text : List ℕ) (number line : ℕ) (detail : Detail) (told : Reason) (output : List ℕ) (journal : List JournalLine)
-    → IsTextFault number line detail text told → IsDetailedFault text number line detail → output ≡ fault_line number line
-    → ExplainsDue (IsGrowingFaultOf text) told FAULTY_TEXT output journal
-explains_grown_fault text number line detail told output journal (shown, is, bytes) fault printed = λ old new appends.
-    subst (λ (r : Reason). Explains (IsGrowingFaultOf text) r FAULTY_TEXT old new journal) (sym is)
-    (refl, subst (Appends old new) printed appends, (fault, bytes))
+-- and it isn't that of a fault in reading
+pub refused_past : (due : ℕ) → (due ≡ 1) ⊎ (due ≡ 3) → (due == 4) ≡ false
+refused_past due (inl one) = ap (λ (n : ℕ). n == 4) one
+refused_past due (inr three) = ap (λ (n : ℕ). n == 4) three
 
 -- ---- a script that was run
 
@@ -239,17 +227,6 @@ prints_by (Some stop) net tail run plans stopped = (stop_place tail.names (grown
 
 pub prints_grown_stop : (net : Net) (tail : TailText) (run : ScriptRun) → RanPlans net tail run → PrintsGrownStop run.stop run.output.items
 prints_grown_stop net tail run ran = prints_by run.stop net tail run ran.plans ran.ended
-
--- a script that was run is explained as it stopped
-pub explains_grown_run : (text : List ℕ) (told : Reason) (run : ScriptRun) (old new : Option (List ℕ)) (done : Done)
-    → ((text : List ℕ) → ExplainsDue (IsGrowingFaultOf text) told (grown_due_by run.stop) run.output.items run.journal.items)
-    → done.due ≡ grown_due_by run.stop → done.journal ≡ run.journal → Delivers done.status done.due old new run.output.items → EndsFor told done.due done
-    → Explains (IsGrowingFaultOf text) done.reason done.status old new done.journal.items
-explains_grown_run text told run old new done explains due journal delivers ends =
-    explains_delivered (IsGrowingFaultOf text) told done.due run.output.items old new done
-    (subst (λ (n : ℕ). ExplainsDue (IsGrowingFaultOf text) told n run.output.items done.journal.items) (sym due)
-    (subst (λ (lines : Vec JournalLine Global). ExplainsDue (IsGrowingFaultOf text) told (grown_due_by run.stop) run.output.items lines.items) (sym journal) (explains text)))
-    delivers ends
 
 -- ---- the text that is told
 

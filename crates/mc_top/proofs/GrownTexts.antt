@@ -36,7 +36,7 @@ use Rattle.mc_tail.specs.Tails.{DeclaresTail, IsTailFault, at_tail_line, bytes_b
 use Rattle.mc_tail.specs.declared.tail.TailText.{TailText}
 use Rattle.mc_text.specs.Lines.{is_line_end, lines, words}
 use Rattle.mc_top.specs.Growing.{IsGrowingFault, ToldGrowingFault, ToldPlans}
-use Rattle.mc_top.specs.Top.{IsTextOf}
+use Rattle.mc_call.specs.Calls.{IsTextOf}
 
 -- ---- rules past the limit
 

@@ -1,5 +1,4 @@
 mod Accepted
-pub mod BytesBehind
 mod Causes
 mod Channels
 mod DrawsStop
@@ -29,7 +28,7 @@ mod SceneSteps
 mod SceneTexts
 mod SceneWorlds
 mod SeenAlike
-mod SeenNets
+pub mod SeenNets
 mod Shifters
 mod ShownSettles
 mod Stopping

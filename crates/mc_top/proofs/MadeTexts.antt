@@ -19,7 +19,7 @@ use Rattle.mc_top.proofs.FirstWorlds.{first_worlds_await_words}
 use Rattle.mc_top.specs.Modes.{CanRun}
 use Rattle.mc_top.specs.Rings.{AlwaysRests}
 use Rattle.mc_top.specs.SceneLaws.{GeneratedCanRun, ScenesCanRun}
-use Rattle.mc_top.specs.Words.{TellsFew}
+use Rattle.mc_grown_rest.specs.Rests.{TellsFew}
 
 -- one word is few
 few_told : (batches : List (List Turn)) → All TellsOnce batches → All TellsFew batches

@@ -5,7 +5,7 @@ use Rattle.mc_box.specs.declared.setup.SlotSetup.{SlotSetup}
 use Rattle.mc_box.specs.Boxes.{BoxState, first_slot, no_box, no_slot, slot_at}
 use Rattle.mc_cause.specs.CauseLaws.{NoneCloses}
 use Rattle.mc_lines.specs.SoFar.{Declared}
-use Rattle.mc_model.specs.Worlds.{ChannelState, WorldState, box_at, place, slot_of}
+use Rattle.mc_model.specs.Worlds.{ChannelState, WorldState, place, slot_of}
 use Rattle.mc_plan.specs.Layouts.{programmed, with_program}
 use Rattle.mc_plan.specs.Plans.{boxes_from, world_of}
 use Rattle.mc_plan.specs.Setups.{setups_of}

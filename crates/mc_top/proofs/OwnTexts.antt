@@ -9,7 +9,8 @@ use Rattle.mc_scene.specs.Scenes.{scene_text}
 use Rattle.mc_scene.specs.declared.scenes.Scene.{Scene as OneScene}
 use Rattle.mc_script.specs.declared.command.JournalLine.{JournalLine}
 use Rattle.mc_top.specs.Modes.{CanRun, IsWithinLimits, IsWorkable, reads, text_for}
-use Rattle.mc_top.specs.Top.{Delivers, Ends, IsTextFor}
+use Rattle.mc_call.specs.Calls.{Delivers}
+use Rattle.mc_top.specs.Top.{Ends, IsTextFor}
 use Rattle.mc_words.specs.Commands.{IsCommand}
 use Rattle.mc_words.specs.declared.words.Mode.{Mode}
 use Rattle.mc_words.specs.declared.words.Mode.TheVariants.{Check, Conf, Gen, One, Run, Scene}

@@ -8,7 +8,7 @@ use Rattle.mc_replay.specs.declared.fault.JournalFault.{JournalFault}
 use Rattle.mc_replay.specs.declared.fault.ReplayFault.TheVariants as replay
 use Rattle.mc_script.specs.declared.command.JournalLine.{JournalLine}
 use Rattle.mc_text.specs.NameLists.{NameLists}
-use Rattle.mc_top.specs.Behind.{has_bad_tail, journal_line, tail_lines}
+use Rattle.mc_call.specs.Behind.{has_bad_tail, journal_line, tail_lines}
 use Rattle.mc_top.specs.Refusals.{RefusesTail}
 use Rattle.mc_top.specs.declared.checking.TailFault.TheVariants as tail
 

@@ -1,5 +1,5 @@
 -- A script that stops: the slot or the box at which it does has a name, and its journal goes on from what was run.
-use Rattle.std.proofs.Common.{◌≡◌, ◌<◌, ◌++◌, ◌∷◌, [], ℕ, ◌+◌, IfOk, IfSome, Ok, Err, Option, None, Some, Result, List, Vec, Global, codes, drop, length, map, refl, ap, sym, ◌∙◌, subst, inl, slice_index_or}
+use Rattle.std.proofs.Common.{◌≡◌, ◌<◌, ◌++◌, ◌∷◌, [], ℕ, ◌+◌, IfOk, IfSome, Ok, Err, Option, None, Some, Result, List, Vec, Global, drop, length, map, refl, ap, sym, ◌∙◌, subst, inl, slice_index_or}
 use Rattle.std.specs.declared.alloc.AllocError.{AllocError}
 use Rattle.mc_box.specs.declared.event.Turn.{Turn}
 use Rattle.mc_model.specs.Shapes.{HasShape}

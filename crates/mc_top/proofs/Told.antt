@@ -1,27 +1,27 @@
 -- What was read of what a source has left.
-use Rattle.std.proofs.Common.{◌≡◌, ◌≢◌, ◌⊎◌, ◌==◌, inl, inr, ℕ, List, ◌≤◌, Bool, true, false, None, Some, IfSome, map, arith, refl, subst, sym, ap, ◌∙◌}
+use Rattle.std.proofs.Common.{◌≡◌, ◌⊎◌, inl, inr, ℕ, List, Bool, true, false, None, Some, IfSome, map, arith, refl, subst, sym, ap, ◌∙◌}
 use Rattle.std.specs.declared.option.Option.{Option}
-use Rattle.mc_io.specs.Faults.{Rose, faults_after, next_count}
 use Rattle.mc_script.specs.declared.command.JournalLine.{JournalLine}
 use Rattle.mc_net.specs.Nets.{DeclaresNet, batch_turns}
 use Rattle.mc_lines.specs.SoFar.{Declared}
 use Rattle.mc_lines.specs.declared.tail.Tail.{Tail}
 use Rattle.mc_lines.specs.declared.tail.Tail.TheVariants.{Nothing, Journal, Grow}
 use Rattle.mc_net.specs.TextLaws.{first_bytes}
-use Rattle.mc_net.specs.Texts.{IsFault, Says}
+use Rattle.mc_net.specs.Texts.{Says}
 use Rattle.mc_net.specs.Versions.{MeetsNoLast}
 use Rattle.mc_net.specs.declared.net.Net.{Net}
 use Rattle.mc_net.proofs.Faults.{declares_or_faults}
-use Rattle.mc_net.proofs.FirstBytes.{faults_of_the_first_bytes, nets_of_the_first_bytes}
 use Rattle.mc_replay.proofs.Good.{good_or_faulty}
 use Rattle.mc_replay.specs.Faults.{IsJournalFault}
-use Rattle.mc_top.specs.Behind.{HasGoodJournal, HasJournal, HasJournalFault, has_bad_tail, tail_lines}
+use Rattle.mc_call.specs.Behind.{HasGoodJournal, HasJournal, HasJournalFault, has_bad_tail, tail_lines}
+use Rattle.mc_call.proofs.Told.{told_declares, told_fault}
 use Rattle.mc_top.specs.Journals.{ShowsCause}
-use Rattle.mc_top.specs.Top.{Ends, IsTextOf, RefusesBox, RefusesCheck, StopsScript, ToldDeclares, ToldFault, ToldJournal}
+use Rattle.mc_top.specs.Top.{Ends, RefusesBox, RefusesCheck, StopsScript, ToldJournal}
+use Rattle.mc_call.specs.Calls.{IsTextOf, ToldDeclares, ToldFault}
 use Rattle.mc_top.specs.Modes.{CanCheck, CanConfer, CanRun, checks, has_feature, tail_of}
 use Rattle.mc_seq.specs.declared.stopping.SettleStop.{SettleStop}
 use Rattle.mc_top.specs.Rings.{AlwaysRests}
-use Rattle.mc_top.proofs.BytesBehind.{bad_alike, lines_alike}
+use Rattle.mc_call.proofs.BytesBehind.{bad_alike, lines_alike}
 use Rattle.mc_top.proofs.Causes.{never_stops}
 use Rattle.mc_top.proofs.SeenNets.{Seen, declared_same, seen}
 use Rattle.mc_words.specs.Commands.{bytes_of}
@@ -29,16 +29,6 @@ use Rattle.mc_words.specs.declared.words.Mode.{Mode}
 use Rattle.mc_words.specs.declared.words.Mode.TheVariants.{Check, Conf, Gen, One, Run, Scene}
 
 -- ---- what is told
-
--- the fault of the text that was read is that of what was left
-pub told_fault : (tail : Tail) (told : Option (List ℕ)) (text : List ℕ) (number line : ℕ) → IsTextOf tail told text → IsFault tail text number line → ToldFault tail told number line
-told_fault tail None text number line read fault = tt
-told_fault tail (Some all) text number line read fault = faults_of_the_first_bytes tail all number line (subst (λ (t : List ℕ). IsFault tail t number line) read fault)
-
--- the text that was read declares a network, and so does what was left
-pub told_declares : (tail : Tail) (told : Option (List ℕ)) (text : List ℕ) (net : Net) → IsTextOf tail told text → DeclaresNet tail text net → ToldDeclares tail told net
-told_declares tail None text net read declares = tt
-told_declares tail (Some all) text net read declares = nets_of_the_first_bytes tail all net (subst (λ (t : List ℕ). DeclaresNet tail t net) read declares)
 
 -- the journal after what was read is the one after what was left
 has_all : (all : List ℕ) (net : Net) (journal : List JournalLine) → HasJournal (first_bytes Journal all) net journal → HasJournal all net journal
@@ -240,23 +230,6 @@ box_works (Check why) told old new text status journal refused is works = let cl
 box_works (Gen number size) told old new text status journal refused is works = let clash : true ≡ false = refused.none in cc
 box_works (Scene scene) told old new text status journal refused is works = let clash : true ≡ false = refused.none in cc
 box_works (Conf name) told old new text status journal refused is works = box_says (bytes_of name) text told refused.net refused.declared refused.none is works
-
--- ---- counted faults
-
-le_self : (n : ℕ) → n ≤ n
-le_self n = omega arith
-
--- a call that failed was counted
-failed_rose : (before now : ℕ) (failed : Bool) → now ≡ faults_after before failed → failed ≡ true → Rose before now
-failed_rose before now failed counted is =
-    let risen : now ≡ next_count before = counted ∙ ap (faults_after before) is in
-    subst (λ (n : ℕ). n ≤ now) risen (le_self now)
-
--- a status that comes with a counted fault alone doesn't come without one
-pub not_failed : (before now status fault : ℕ) → now ≡ faults_after before (status == fault) → (Rose before now → ⊥) → status ≡ fault → ⊥
-not_failed before now status fault counted unrisen is =
-    let failed : (status == fault) ≡ true = grind (arith, is) in
-    unrisen (failed_rose before now (status == fault) counted failed)
 
 -- a text on which the work can be done, and that was read, leaves only two ends
 pub works_out : (mode : Mode) (told old new : Option (List ℕ)) (text : List ℕ) (status due : ℕ) (journal : List JournalLine)

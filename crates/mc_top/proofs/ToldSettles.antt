@@ -1,5 +1,5 @@
 -- What is told at the marks of a journal of why paths closed is printed as the definition says.
-use Rattle.std.proofs.Common.{◌≡◌, ◌+◌, ◌<◌, ◌≤◌, ◌++◌, ◌∷◌, [], ℕ, suc, Bool, true, false, List, All, Some, None, Option, Vec, add-one, append-nil, append_assoc, ap, arith, codes, drop, length, map, refl, slice_index_or, subst, sym, ◌∙◌}
+use Rattle.std.proofs.Common.{◌≡◌, ◌+◌, ◌<◌, ◌≤◌, ◌++◌, ◌∷◌, [], ℕ, suc, Bool, false, List, All, Some, None, Option, Vec, add-one, append-nil, append_assoc, ap, codes, drop, length, map, refl, slice_index_or, subst, sym, ◌∙◌}
 use Rattle.std.proofs.Math.Seq.{drop-cons}
 use Rattle.std.proofs.lemmas.List.{drop_all}
 use Rattle.std.specs.declared.alloc.Global.{Global}
@@ -34,7 +34,7 @@ use Rattle.mc_top.specs.Printed.{told_text, why_line, why_lines, whys_text}
 use Rattle.mc_settle_text.specs.Paths.{settle_text}
 use Rattle.mc_settle_text.specs.Words.{place_word}
 use Rattle.mc_top.specs.Shown.{ShowsPaths, printed_text}
-use Rattle.mc_top.proofs.Running.{IsAfterSettle, after_settle}
+use Rattle.mc_top.proofs.Running.{after_settle}
 use Rattle.mc_top.proofs.ShownSettles.{shown_behind}
 use Rattle.mc_settle_text.proofs.Shown.{AreInside, are_inside, both_flow, settle_is, view_by}
 use Rattle.mc_view.specs.declared.PathView.{PathView}

@@ -19,7 +19,7 @@ use Rattle.mc_model.specs.Unprogrammed.{HasNoPrograms}
 use Rattle.mc_model.specs.Worlds.{WorldState, box_at}
 use Rattle.mc_script.specs.declared.command.JournalLine.{JournalLine}
 use Rattle.mc_top.specs.Journals.{IsStoppedJournal}
-use Rattle.mc_top.specs.Words.{RestsByWords, TellsFew}
+use Rattle.mc_grown_rest.specs.Rests.{RestsByWords, TellsFew}
 use Rattle.mc_seq.specs.declared.stopping.SettleStop.TheVariants.{Restless}
 
 -- ---- Tells

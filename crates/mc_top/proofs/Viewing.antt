@@ -1,5 +1,5 @@
 -- The parties of a conference have names.
-use Rattle.std.proofs.Common.{◌<◌, ◌≡◌, ℕ, Bool, All, List, length, map, slice_index_or, subst, sym, arith}
+use Rattle.std.proofs.Common.{◌<◌, ℕ, Bool, All, length, map, slice_index_or, subst, sym}
 use Rattle.std.proofs.lemmas.List.Elements.{All-map}
 use Rattle.mc_box.specs.Boxes.{media_at}
 use Rattle.mc_conf.specs.Printed.{AreNamedEnds, IsNamedParty}

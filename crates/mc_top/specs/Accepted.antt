@@ -4,7 +4,7 @@ use Rattle.mc_net.specs.Followed.{ended}
 use Rattle.mc_net.specs.declared.net.Net.{Net}
 use Rattle.mc_script.specs.declared.command.JournalLine.{JournalLine}
 use Rattle.mc_text.specs.NameLists.{NameLists}
-use Rattle.mc_top.specs.Behind.{is_too_long}
+use Rattle.mc_call.specs.Behind.{is_too_long}
 use Rattle.mc_top.specs.Modes.{CanCheck, output_of}
 use Rattle.mc_top.specs.Printed.{journal_part}
 use Rattle.mc_top.specs.Top.{RefusesCheck, Worked}

@@ -2,10 +2,11 @@
 use Rattle.std.specs.Prelude.{◌≡◌, ℕ, Bool, List, IsTrue, Option, Some}
 use Rattle.mc_scene.specs.Generated.{generated}
 use Rattle.mc_top.specs.Modes.{IsWithinLimits}
-use Rattle.mc_top.specs.Statuses.{judges_text}
-use Rattle.mc_top.specs.Top.{Delivers, EndsAs}
-use Rattle.mc_top.specs.declared.status.TheConstants.{WORKED, JOURNAL_FAULT}
-use Rattle.mc_top.specs.declared.top.Done.{Done}
+use Rattle.mc_call.specs.Statuses.{judges_text}
+use Rattle.mc_call.specs.Calls.{Delivers}
+use Rattle.mc_top.specs.Top.{EndsAs}
+use Rattle.mc_call.specs.declared.status.TheConstants.{WORKED, JOURNAL_FAULT}
+use Rattle.mc_call.specs.declared.done.Done.{Done}
 use Rattle.mc_words.specs.declared.words.Mode.{Mode}
 use Rattle.mc_words.specs.declared.words.Mode.TheVariants.{Check, Gen, One}
 

@@ -33,12 +33,13 @@ use Rattle.mc_tail.specs.Tails.{HasHead, IsTailFault}
 use Rattle.mc_tail.specs.declared.item.Item.{Item}
 use Rattle.mc_tail.specs.declared.tail.TailText.{TailText}
 use Rattle.mc_text.specs.NameLists.{NameLists}
-use Rattle.mc_top.specs.Printed.{fault_line}
-use Rattle.mc_top.specs.Reasons.{HasPlace, Told, of_box, of_journal, of_text}
-use Rattle.mc_top.specs.Statuses.{IsDueForGrowing, grown_stop_status, keeps_journal}
-use Rattle.mc_top.specs.Top.{Delivers}
-use Rattle.mc_top.specs.declared.status.TheConstants.{WORKED, FAULTY_TEXT, NO_MEMORY, READ_FAULT, RESTLESS, RING, CHANNEL_IN_USE}
-use Rattle.mc_top.specs.declared.top.Done.{Done}
+use Rattle.mc_call.specs.Printed.{fault_line}
+use Rattle.mc_call.specs.Reasons.{HasPlace, Told, of_box, of_journal, of_text}
+use Rattle.mc_top.specs.Statuses.{IsDueForGrowing, grown_stop_status}
+use Rattle.mc_call.specs.Statuses.{keeps_journal}
+use Rattle.mc_call.specs.Calls.{Delivers}
+use Rattle.mc_call.specs.declared.status.TheConstants.{WORKED, FAULTY_TEXT, NO_MEMORY, READ_FAULT, RESTLESS, RING, CHANNEL_IN_USE}
+use Rattle.mc_call.specs.declared.done.Done.{Done}
 
 -- ---- the text
 

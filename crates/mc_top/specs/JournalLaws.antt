@@ -6,7 +6,7 @@ use Rattle.mc_lines.specs.declared.tail.Tail.{Tail}
 use Rattle.mc_lines.specs.declared.tail.Tail.TheVariants.{Journal}
 use Rattle.mc_net.specs.declared.net.Net.{Net}
 use Rattle.mc_script.specs.declared.command.JournalLine.{JournalLine}
-use Rattle.mc_top.specs.Behind.{HasGoodJournal, HasJournalFault, is_too_long}
+use Rattle.mc_call.specs.Behind.{HasGoodJournal, HasJournalFault, is_too_long}
 use Rattle.mc_top.specs.TextAlone.{SettlesText}
 
 -- the printed lines of a journal that settles a text are read as these lines, with the names and shapes that the text

@@ -12,7 +12,7 @@ use Rattle.mc_settings.specs.Batches.{LeavesNoRing, UseUp}
 use Rattle.mc_script.specs.declared.command.JournalLine.{JournalLine}
 use Rattle.mc_script.specs.declared.command.JournalLine.TheVariants.{Turn as Made}
 use Rattle.mc_laws.specs.Chains.{ClosesNoChain}
-use Rattle.mc_top.specs.Words.{RestsByWords}
+use Rattle.mc_grown_rest.specs.Rests.{RestsByWords}
 use Rattle.mc_seq.specs.declared.stopping.SettleStop.{SettleStop}
 use Rattle.mc_seq.specs.declared.stopping.SettleStop.TheVariants.{Restless, Ring, VersionEnd}
 

@@ -17,7 +17,8 @@ use Rattle.mc_scene.specs.Generated.{generated}
 use Rattle.mc_scene.specs.Scenes.{scene_text}
 use Rattle.mc_scene.specs.declared.limit.TheConstants.{NUMBER_LIMIT, SIZE_LIMIT}
 use Rattle.mc_script.specs.declared.command.JournalLine.{JournalLine}
-use Rattle.mc_top.specs.Behind.{HasGoodJournal}
+use Rattle.mc_call.specs.Behind.{HasGoodJournal}
+use Rattle.mc_call.specs.Reasons.{IsFaultOfTold, Told}
 use Rattle.mc_top.specs.Printed.{checked_text, conferences_text, journal_text, run_text, summaries_text}
 use Rattle.mc_top.specs.Rings.{AlwaysRests}
 use Rattle.mc_top.specs.Summaries.{heading_text}
@@ -76,6 +77,11 @@ tail_of (Check why) = Journal
 tail_of (Gen number size) = Nothing
 tail_of (Scene scene) = Nothing
 tail_of (Conf name) = Nothing
+
+-- what is told is the fault of the text on which the mode works that the words ask for
+abbrev pub IsFaultByWords : List (String Global) → (left : Option (List ℕ)) → Told → Type 0
+IsFaultByWords words left told =
+    (mode : Mode) → IsCommand words mode → IsFaultOfTold (tail_of mode) (text_for mode left) told
 
 -- the state at which the draws of a mode begin, if it draws. The turns of other modes are made by parts, in any order
 abbrev pub draws_from : Mode → Option ℕ

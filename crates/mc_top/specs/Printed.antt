@@ -1,8 +1,6 @@
 -- What is printed at the settles of a journal, and for a faulty text or journal.
-use Rattle.std.specs.Prelude.{ℕ, ◌+◌, Bool, true, false, List, [], ◌∷◌, ◌++◌, codes, if◌then◌else◌, length, map, Option, Some, None}
-use Rattle.std.specs.Fmt.{decimal}
-use Rattle.std.specs.List.{flat_map, range_with_len}
-use Rattle.mc_box.specs.BoxShapes.{is_feature}
+use Rattle.std.specs.Prelude.{ℕ, ◌+◌, Bool, true, false, List, [], ◌∷◌, ◌++◌, codes, map, Option, Some, None}
+use Rattle.std.specs.List.{flat_map}
 use Rattle.mc_box.specs.declared.event.Turn.{Turn}
 use Rattle.mc_cause.specs.Causes.{why}
 use Rattle.mc_conf.specs.Printed.{print_conf}
@@ -10,11 +8,11 @@ use Rattle.mc_slot.specs.declared.State.{State}
 use Rattle.mc_slot.specs.declared.State.TheVariants.{Flowing}
 use Rattle.mc_model.specs.PathTable.{path_state}
 use Rattle.mc_model.specs.Paths.{PathEnds, paths}
-use Rattle.mc_model.specs.Worlds.{WorldState, box_at}
+use Rattle.mc_model.specs.Worlds.{WorldState}
 use Rattle.mc_path.specs.Views.{view_of}
 use Rattle.mc_settle_text.specs.Paths.{settle_text}
 use Rattle.mc_settle_text.specs.Stops.{stop_line}
-use Rattle.mc_settle_text.specs.Words.{box_word, place_word}
+use Rattle.mc_settle_text.specs.Words.{place_word}
 use Rattle.mc_text.specs.NameLists.{NameLists}
 use Rattle.mc_journal.specs.Printed.{print_journal}
 use Rattle.mc_table.specs.Whys.{why_word}
@@ -121,29 +119,3 @@ with_journal asked stop names journal text = text
 abbrev pub run_text : Report → (asked : Bool) → NameLists → WorldState → Option SettleStop → List JournalLine → List ℕ
 run_text report asked names world stop journal =
     with_journal asked stop names journal (script_text report names world stop journal)
-
--- ---- a faulty text
-
--- the first line that breaks a rule, and the least number of the rules that it breaks
-abbrev pub fault_line : ℕ → ℕ → List ℕ
-fault_line number line = line_of (codes "fault" ∷ decimal number ∷ codes "line" ∷ decimal line ∷ [])
-
--- ---- no such box
-
--- the name that no feature has
-abbrev pub no_box_line : List ℕ → List ℕ
-no_box_line name = line_of (codes "nobox" ∷ name ∷ [])
-
--- a feature by its name, after a space, and no other box
-abbrev pub feature_word : NameLists → WorldState → ℕ → List ℕ
-feature_word names world who = if is_feature (box_at world who).kind then 32 ∷ box_word names who else []
-
--- all features
-abbrev pub feature_words : NameLists → WorldState → List ℕ
-feature_words names world = flat_map (feature_word names world) (range_with_len 0 (length names.boxes))
-
--- ---- a faulty journal
-
--- the rule that is broken first, and one more than the turns before the line that breaks it
-abbrev pub journal_fault_line : ℕ → ℕ → List ℕ
-journal_fault_line number turn = line_of (codes "fault" ∷ decimal number ∷ codes "turn" ∷ decimal turn ∷ [])

@@ -7,7 +7,7 @@ use Rattle.mc_net.specs.Nets.{batch_turns}
 use Rattle.mc_net.specs.declared.net.Net.{Net}
 use Rattle.mc_replay.specs.Faults.{IsJournalFault, StandsFor}
 use Rattle.mc_text.specs.NameLists.{NameLists}
-use Rattle.mc_top.specs.Behind.{has_bad_tail, journal_line, tail_lines}
+use Rattle.mc_call.specs.Behind.{has_bad_tail, journal_line, tail_lines}
 use Rattle.mc_top.specs.declared.checking.TailFault.{TailFault}
 use Rattle.mc_top.specs.declared.checking.TailFault.TheVariants.{At, NoMemory}
 

@@ -5,7 +5,7 @@ use Rattle.mc_net.specs.Nets.{IsFirstWorld, IsUnprogrammed, batches_of}
 use Rattle.mc_lines.specs.SoFar.{Declared}
 use Rattle.mc_settings.specs.Batches.{LeavesNoRing}
 use Rattle.mc_laws.specs.Chains.{ClosesNoChain}
-use Rattle.mc_top.specs.Words.{RestsByWords}
+use Rattle.mc_grown_rest.specs.Rests.{RestsByWords}
 
 -- in the first world of a text no batch leaves a ring: whichever turns settle them, their goals make none
 abbrev pub MakesNoRing : Declared → Type 0

@@ -1,10 +1,9 @@
 -- What is said of the statuses with which a call ends.
-use Rattle.std.specs.Prelude.{ℕ, ◌≡◌, ◌⊎◌, ◌==◌, ◌||◌, Bool, Option, Some, None}
-use Rattle.mc_top.specs.declared.status.TheConstants.{WORKED, FAULTY_TEXT, VERSION_END, USAGE, NO_MEMORY, READ_FAULT, RESTLESS, RING, JOURNAL_FAULT, NO_BOX, CHANNEL_IN_USE}
+use Rattle.std.specs.Prelude.{ℕ, ◌≡◌, ◌⊎◌, ◌==◌, ◌||◌, Bool, false, Option, Some, None}
+use Rattle.mc_call.specs.Statuses.{judges_text, stop_status}
+use Rattle.mc_call.specs.declared.status.TheConstants.{WORKED, FAULTY_TEXT, USAGE, NO_MEMORY, READ_FAULT, RESTLESS, RING, JOURNAL_FAULT, NO_BOX, CHANNEL_IN_USE}
 use Rattle.mc_grown_script.specs.declared.stop.GrownStop.{GrownStop}
 use Rattle.mc_grown_script.specs.declared.stop.GrownStop.TheVariants.{Cut, Settle}
-use Rattle.mc_seq.specs.declared.stopping.SettleStop.{SettleStop}
-use Rattle.mc_seq.specs.declared.stopping.SettleStop.TheVariants.{Restless, Ring, VersionEnd}
 
 -- the status may be due: each may but that of a fault in writing
 abbrev pub IsDue : ℕ → Type 0
@@ -30,26 +29,9 @@ IsDueForGrowing due =
     (due ≡ WORKED) ⊎ (due ≡ FAULTY_TEXT) ⊎ (due ≡ NO_MEMORY) ⊎ (due ≡ READ_FAULT) ⊎ (due ≡ RESTLESS) ⊎ (due ≡ RING)
     ⊎ (due ≡ CHANNEL_IN_USE)
 
--- the text was read, and it was found to have a fault or none
-abbrev pub judges_text : ℕ → Bool
-judges_text due =
-    due == WORKED || due == FAULTY_TEXT || due == RESTLESS || due == RING || due == JOURNAL_FAULT || due == NO_BOX
-
--- what was settled, checked or made up to a stop, is in the journal
-abbrev pub keeps_journal : ℕ → Bool
-keeps_journal due =
-    due == WORKED || due == VERSION_END || due == RESTLESS || due == RING || due == CHANNEL_IN_USE
-
--- the status with which a call ends whose script stopped
-abbrev pub stop_status : SettleStop → ℕ
-stop_status (VersionEnd at) = VERSION_END
-stop_status (Ring at) = RING
-stop_status (Restless at) = RESTLESS
-
--- the status that is due for a script that was run to its end, or to a stop
-abbrev pub due_by : Option SettleStop → ℕ
-due_by None = WORKED
-due_by (Some stop) = stop_status stop
+-- the status isn't that of a fault in reading
+abbrev pub IsPastReading : ℕ → Type 0
+IsPastReading due = (due == READ_FAULT) ≡ false
 
 -- ---- scripts of networks that grow
 

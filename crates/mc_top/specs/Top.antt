@@ -1,61 +1,35 @@
 -- What the top call promises.
-use Rattle.std.specs.Prelude.{◌≡◌, ◌≢◌, ◌⊎◌, ◌≤◌, ℕ, List, [], ◌∷◌, ◌++◌, codes, length, map, IfSome, IsFalse, IsTrue, None, Some}
+use Rattle.std.specs.Prelude.{◌≡◌, ◌⊎◌, ℕ, List, [], map, IfSome, IsFalse, IsTrue, None, Some}
 use Rattle.std.specs.declared.option.Option.{Option}
-use Rattle.std.specs.Io.KnownBytes.{Appends, Consumes, IsAtEnd, Keeps}
-use Rattle.mc_io.specs.Bytes.{AppendsPart}
+use Rattle.std.specs.Io.KnownBytes.{Keeps}
 use Rattle.mc_model.specs.Sound.{IsSound}
-use Rattle.mc_net.specs.Nets.{DeclaresNet, batch_turns}
-use Rattle.mc_lines.specs.Rules.{read_limit, text_limit}
+use Rattle.mc_net.specs.Nets.{batch_turns}
 use Rattle.mc_lines.specs.declared.tail.Tail.{Tail}
 use Rattle.mc_lines.specs.declared.tail.Tail.TheVariants.{Nothing, Journal, Grow}
-use Rattle.mc_net.specs.TextLaws.{first_bytes}
-use Rattle.mc_net.specs.Texts.{IsFault}
 use Rattle.mc_net.specs.declared.net.Net.{Net}
 use Rattle.mc_replay.specs.Journals.{HoldsAtSettles, IsJournal}
 use Rattle.mc_replay.specs.Segments.{EachKeepsShiftLimit}
-use Rattle.mc_top.specs.Behind.{HasJournal, HasJournalFault}
+use Rattle.mc_call.specs.Behind.{HasJournal, HasJournalFault}
+use Rattle.mc_call.specs.Calls.{Delivers, IsTextOf, ReadsWhole, ToldDeclares, ToldFault}
 use Rattle.mc_top.specs.Drawn.{FollowsDraws, IsDrawnJournal}
 use Rattle.mc_top.specs.Journals.{IsStoppedJournal, ShowsCause}
 use Rattle.mc_top.specs.Modes.{checks, draws_from, has_box, output_of, reads, tail_of}
-use Rattle.mc_top.specs.Printed.{fault_line, journal_fault_line, no_box_line}
+use Rattle.mc_call.specs.Printed.{fault_line, journal_fault_line, no_box_line}
 use Rattle.mc_settle_text.specs.Stops.{stop_line}
-use Rattle.mc_top.specs.Statuses.{keeps_journal, stop_status}
+use Rattle.mc_call.specs.Statuses.{keeps_journal, stop_status}
 use Rattle.mc_scene.specs.Generated.{generated}
 use Rattle.mc_scene.specs.Scenes.{scene_text}
 use Rattle.mc_script.specs.declared.command.JournalLine.{JournalLine}
-use Rattle.mc_top.specs.declared.status.TheConstants.{WORKED, FAULTY_TEXT, USAGE, NO_MEMORY, READ_FAULT, RESTLESS, RING, WRITE_FAULT, JOURNAL_FAULT, NO_BOX}
+use Rattle.mc_call.specs.declared.status.TheConstants.{WORKED, FAULTY_TEXT, NO_MEMORY, READ_FAULT, RESTLESS, RING, JOURNAL_FAULT, NO_BOX}
 use Rattle.mc_seq.specs.declared.stopping.SettleStop.{SettleStop}
-use Rattle.mc_top.specs.declared.top.Done.{Done}
+use Rattle.mc_call.specs.declared.done.Done.{Done}
 use Rattle.mc_words.specs.declared.words.Mode.{Mode}
 use Rattle.mc_words.specs.declared.words.Mode.TheVariants.{Check, Conf, Gen, One, Run, Scene}
 use Rattle.mc_words.specs.Commands.{name_for}
 
--- the one line that is printed for words that are no command
-abbrev pub usage_text : List ℕ
-usage_text = codes "usage" ++ 10 ∷ []
-
--- the output that is due was written whole, or at a fault in writing a part of it that isn't the whole
-pub record Delivers (status due : ℕ) (old new : Option (List ℕ)) (output : List ℕ) : Type 0 where
-  pub whole : status ≡ due → Appends old new output
-  pub part : status ≢ due → (status ≡ WRITE_FAULT) × AppendsPart old new output
-
--- the text was read to its end, or to the byte past the limit
-pub record ReadsWhole (tail : Tail) (old new : Option (List ℕ)) (text : List ℕ) : Type 0 where
-  pub consumed : Consumes old new text
-  pub within : length text ≤ read_limit tail
-  pub at_end : length text ≤ text_limit tail → IsAtEnd new
-
--- so some text was
-abbrev pub HasReadWhole : Tail → (old new : Option (List ℕ)) → Type 0
-HasReadWhole tail old new = (text : List ℕ) × ReadsWhole tail old new text
-
 -- this text was read so, if the mode reads
 abbrev pub ReadsFor : Mode → (old new : Option (List ℕ)) → List ℕ → Type 0
 ReadsFor mode old new text = IsTrue (reads mode) → ReadsWhole (tail_of mode) old new text
-
--- the text, or its first bytes up to one more than the limit, of what is told
-abbrev pub IsTextOf : Tail → Option (List ℕ) → List ℕ → Type 0
-IsTextOf tail told text = IfSome told (λ all. text ≡ first_bytes tail all)
 
 -- this is the text that a mode works on, or its first bytes, where it is told; that of a mode that doesn't read is its
 -- own
@@ -76,15 +50,6 @@ pub record Settles (net : Net) (draws : Option ℕ) (journal : List JournalLine)
   pub settled : IsJournal net.world (map batch_turns net.batches.items) journal
   pub holds : HoldsAtSettles net.world journal
   pub drawn : IfSome draws (λ state. IsDrawnJournal None state net.world (map batch_turns net.batches.items) journal)
-
--- what is told of a text declares this network
-abbrev pub ToldDeclares : Tail → Option (List ℕ) → Net → Type 0
-ToldDeclares tail told net = IfSome told (λ text. DeclaresNet tail text net)
-
--- the first fault of what is told of a text is this one: a line breaks the rule of this number and none with a lesser
--- one, and no line before it breaks a rule
-abbrev pub ToldFault : Tail → Option (List ℕ) → ℕ → ℕ → Type 0
-ToldFault tail told number line = IfSome told (λ text. IsFault tail text number line)
 
 -- where a journal stands after the commands, it is the one that is told, and no line of it is bad
 abbrev pub ToldJournal : Tail → Option (List ℕ) → Net → List JournalLine → Type 0
@@ -174,11 +139,3 @@ pub record Ends (mode : Mode) (told old new : Option (List ℕ)) (status due : �
 -- it is what the call ended with
 abbrev pub EndsAs : Mode → (told old new : Option (List ℕ)) → Done → Type 0
 EndsAs mode told old new done = Ends mode told old new done.status done.due done.journal.items
-
--- the one line for words that are no command was delivered
-abbrev pub PrintsUsage : (old new : Option (List ℕ)) → Done → Type 0
-PrintsUsage old new done = Delivers done.status USAGE old new usage_text
-
--- memory was wanting, and nothing was delivered
-abbrev pub GivesUp : (old new : Option (List ℕ)) → Done → Type 0
-GivesUp old new done = (done.due ≡ NO_MEMORY) × (done.status ≡ NO_MEMORY) × Keeps old new

@@ -15,6 +15,7 @@ ghost use Rattle.mc_top.specs.declared.checking.TailFault.TheVariants.{NoMemory}
 ghost use Rattle.mc_top.specs.Shown.{printed_text, shown_text};
 
 use crate::viewer::PathViewer;
+use mc_call::TailPlace;
 use mc_replay::{ReplayFault, check_lines, tell_lines};
 use mc_script::{Batch, JournalText};
 use mc_table::{print_settle, print_whys, put_settle};
@@ -22,15 +23,6 @@ use mc_text::Names;
 use mc_view::PathView;
 use mc_world::World;
 use std::alloc::{AllocError, Global};
-
-/// Where the journal after a text has a fault: the number of its rule, one more than the turns before it, and the number
-/// of its line in the text, from 1.
-#[derive(Clone, Copy)]
-pub struct TailPlace {
-    pub number: u8,
-    pub turn: u32,
-    pub line: u32,
-}
 
 /// Why the journal after a text isn't taken.
 #[derive(Drop)]

@@ -1,27 +1,24 @@
 // Scripts of networks whose channels join and are cut.
-ghost use Rattle.std.specs.Prelude.{◌≡◌, ◌⊎◌, ◌==◌, false, map, IfOk, IsTrue, Some};
+ghost use Rattle.std.specs.Prelude.{◌≡◌, ◌⊎◌, ◌==◌, map, IfOk, IsTrue, Some};
+ghost use Rattle.mc_call.specs.Answers.{Answers, TellsNothing};
+ghost use Rattle.mc_call.specs.Calls.{Delivers, HasReadWhole};
+ghost use Rattle.mc_call.specs.Reasons.{EndsFor, ExplainsDue};
 ghost use Rattle.mc_io.specs.Bytes.{ConsumesAtMost};
 ghost use Rattle.mc_io.specs.Faults.{faults_after};
 ghost use Rattle.mc_lines.specs.Rules.{read_limit};
 ghost use Rattle.mc_lines.specs.declared.tail.Tail.TheVariants.{Grow};
 ghost use Rattle.mc_net.specs.Nets.{DeclaresNet, NamesAll, batch_turns};
-ghost use Rattle.mc_net.specs.Texts.{IsFault};
 ghost use Rattle.mc_tail.specs.Tails.{DeclaresTail};
-ghost use Rattle.mc_top.specs.Growing.{EndsGrownAs, IsDetailedFault, IsGrowingFaultOf, IsGrowingFaultOfTold, MayBeRun, RanPlans, RanStages};
-ghost use Rattle.mc_top.specs.Reasons.{EndsFor, Explains};
-ghost use Rattle.mc_top.specs.Statuses.{grown_due_by, judges_growing};
-ghost use Rattle.mc_top.specs.Top.{Delivers, HasReadWhole};
+ghost use Rattle.mc_top.specs.Growing.{EndsGrownAs, IsGrowingFaultOf, IsGrowingFaultOfTold, MayBeRun, PrintsGrownStop, RanPlans, RanStages};
+ghost use Rattle.mc_top.specs.Statuses.{IsDueForGrowing, IsPastReading, grown_due_by, judges_growing};
 
-use crate::print::print_fault;
-use crate::reasons::grown_reason;
-use crate::status::{FAULTY_TEXT, NO_MEMORY, READ_FAULT, WRITE_FAULT};
-use crate::stop::grown_due_by;
-use crate::top::{Done, deliver, give_up};
+use mc_call::status::{CHANNEL_IN_USE, NO_MEMORY, READ_FAULT, WORKED, WRITE_FAULT};
+use mc_call::{Done, cut_reason, deliver, due_by, give_up, refuse_line, refuse_text, stop_reason};
 use mc_explain::Reason;
 use mc_grow::Grown;
-use mc_grown_script::{ScriptRun, run_plans};
+use mc_grown_script::{GrownStop, ScriptRun, run_plans};
 use mc_io::{Gate, Sink, Source, SourceFault, read_up_to};
-use mc_net::{Detail, Net, NetFault, TEXT_LIMIT, Tail, TextFault, fault_detail, read_net};
+use mc_net::{Detail, Net, NetFault, TEXT_LIMIT, Tail, read_net};
 use mc_script::Batch;
 use mc_stage_plans::laws::plans_may_happen;
 use mc_stage_plans::stage_plans;
@@ -44,14 +41,13 @@ pub fn grow<R: Threads + Sync, S: Source, K: Sink, G: Gate + Sync>(
     source: &mut S,
     sink: &mut K,
 ) -> Done
-    ensures status { (result.status ≡ result.due) ⊎ (result.status ≡ WRITE_FAULT) }
     ensures ends { EndsGrownAs (S.left source.old) (K.written sink.old) (K.written sink.new) result }
-    ensures read_whole { IsTrue (judges_growing result.due) → HasReadWhole Grow (S.left source.old) (S.left source.new) }
+    ensures read_whole { IsTrue (judges_growing result.due)
+        → HasReadWhole Grow (S.left source.old) (S.left source.new) }
     ensures at_most { ConsumesAtMost (S.left source.old) (S.left source.new) (read_limit Grow) }
     ensures read_fault { S.faults source.new ≡ faults_after (S.faults source.old) (result.due == READ_FAULT) }
-    ensures write_fault { K.faults sink.new ≡ faults_after (K.faults sink.old) (result.status == WRITE_FAULT) }
-    ensures reason { Explains (IsGrowingFaultOfTold (S.left source.old)) result.reason result.status
-        (K.written sink.old) (K.written sink.new) result.journal.items }
+    ensures answers { Answers IsDueForGrowing (IsGrowingFaultOfTold (S.left source.old))
+        (K.written sink.old) (K.written sink.new) (K.faults sink.old) (K.faults sink.new) result }
 {
     match read_up_to(alloc, source, TEXT_LIMIT) {
         Ok(text) => grow_text(rt, alloc, gate, &text, sink),
@@ -68,16 +64,13 @@ fn grow_text<R: Threads + Sync, K: Sink, G: Gate + Sync>(
     text: &[u8],
     sink: &mut K,
 ) -> Done
-    ensures not_read { result.due == READ_FAULT ≡ false }
-    ensures status { (result.status ≡ result.due) ⊎ (result.status ≡ WRITE_FAULT) }
     ensures ends { EndsGrownAs (Some text.now) (K.written sink.old) (K.written sink.new) result }
-    ensures reason { Explains (IsGrowingFaultOf text.now) result.reason result.status
-        (K.written sink.old) (K.written sink.new) result.journal.items }
-    ensures fault { K.faults sink.new ≡ faults_after (K.faults sink.old) (result.status == WRITE_FAULT) }
+    ensures answers { Answers IsPastReading (IsGrowingFaultOf text.now)
+        (K.written sink.old) (K.written sink.new) (K.faults sink.old) (K.faults sink.new) result }
 {
     match read_net(alloc, text, Tail::Grow) {
         Ok(net) => grow_net(rt, alloc, gate, text, net, sink),
-        Err(NetFault::Line(fault)) => refuse_head(alloc, text, fault, sink),
+        Err(NetFault::Line(fault)) => refuse_text(alloc, Tail::Grow, text, fault, sink),
         Err(NetFault::NoMemory(_)) => give_up(alloc, NO_MEMORY, Reason::NoMemory),
     }
 }
@@ -93,16 +86,13 @@ fn grow_net<R: Threads + Sync, K: Sink, G: Gate + Sync>(
 ) -> Done
     requires declares { DeclaresNet Grow text.now net }
     requires named { NamesAll net.names net.world }
-    ensures not_read { result.due == READ_FAULT ≡ false }
-    ensures status { (result.status ≡ result.due) ⊎ (result.status ≡ WRITE_FAULT) }
     ensures ends { EndsGrownAs (Some text.now) (K.written sink.old) (K.written sink.new) result }
-    ensures reason { Explains (IsGrowingFaultOf text.now) result.reason result.status
-        (K.written sink.old) (K.written sink.new) result.journal.items }
-    ensures fault { K.faults sink.new ≡ faults_after (K.faults sink.old) (result.status == WRITE_FAULT) }
+    ensures answers { Answers IsPastReading (IsGrowingFaultOf text.now)
+        (K.written sink.old) (K.written sink.new) (K.faults sink.old) (K.faults sink.new) result }
 {
     match read_tail(alloc, text) {
         Ok(tail) => grow_tail(rt, alloc, gate, text, net, tail, sink),
-        Err(NetFault::Line(fault)) => refuse_grown(alloc, text, fault, Detail::Nothing, sink),
+        Err(NetFault::Line(fault)) => refuse_line(alloc, text, fault, Detail::Nothing, sink),
         Err(NetFault::NoMemory(_)) => give_up(alloc, NO_MEMORY, Reason::NoMemory),
     }
 }
@@ -121,12 +111,9 @@ fn grow_tail<R: Threads + Sync, K: Sink, G: Gate + Sync>(
     requires declares { DeclaresNet Grow text.now net }
     requires named { NamesAll net.names net.world }
     requires tail { DeclaresTail text.now tail }
-    ensures not_read { result.due == READ_FAULT ≡ false }
-    ensures status { (result.status ≡ result.due) ⊎ (result.status ≡ WRITE_FAULT) }
     ensures ends { EndsGrownAs (Some text.now) (K.written sink.old) (K.written sink.new) result }
-    ensures reason { Explains (IsGrowingFaultOf text.now) result.reason result.status
-        (K.written sink.old) (K.written sink.new) result.journal.items }
-    ensures fault { K.faults sink.new ≡ faults_after (K.faults sink.old) (result.status == WRITE_FAULT) }
+    ensures answers { Answers IsPastReading (IsGrowingFaultOf text.now)
+        (K.written sink.old) (K.written sink.new) (K.faults sink.old) (K.faults sink.new) result }
 {
     net.world.keeps();
     settles_hold();
@@ -203,44 +190,26 @@ fn deliver_grown<K: Sink>(sink: &mut K, run: ScriptRun, reason: Reason) -> Done
     deliver(sink, due, &output, journal, reason)
 }
 
-// Writes the line of the first fault of a text up to its line `grow`.
-fn refuse_head<K: Sink>(alloc: Global, text: &[u8], fault: TextFault, sink: &mut K) -> Done
-    requires { IsFault Grow text.now fault.number fault.line }
-    ensures not_read { result.due == READ_FAULT ≡ false }
-    ensures status { (result.status ≡ result.due) ⊎ (result.status ≡ WRITE_FAULT) }
-    ensures ends { EndsGrownAs (Some text.now) (K.written sink.old) (K.written sink.new) result }
-    ensures reason { Explains (IsGrowingFaultOf text.now) result.reason result.status
-        (K.written sink.old) (K.written sink.new) result.journal.items }
-    ensures fault { K.faults sink.new ≡ faults_after (K.faults sink.old) (result.status == WRITE_FAULT) }
+// What is to be told of a script that stopped at a settle or at a cut, or came to its end.
+fn grown_reason(alloc: Global, run: &ScriptRun) -> Result<Reason, AllocError>
+    requires { PrintsGrownStop run.now.stop run.now.output.items }
+    ensures { IfOk result (λ reason.
+        ExplainsDue TellsNothing reason (grown_due_by run.now.stop) run.now.output.items run.now.journal.items) }
 {
-    match fault_detail(alloc, text, Tail::Grow, fault) {
-        Ok(detail) => refuse_grown(alloc, text, fault, detail, sink),
-        Err(_) => give_up(alloc, NO_MEMORY, Reason::NoMemory),
+    match run.stop {
+        None => stop_reason(alloc, None, &run.output, &run.journal),
+        Some(GrownStop::Settle(stop)) => stop_reason(alloc, Some(stop), &run.output, &run.journal),
+        Some(GrownStop::Cut(_)) => cut_reason(alloc, &run.output, &run.journal),
     }
 }
 
-// Writes the line of a text's first fault, of which this much more is known. The line of the text is kept for what is
-// told.
-fn refuse_grown<K: Sink>(
-    alloc: Global,
-    text: &[u8],
-    fault: TextFault,
-    detail: Detail,
-    sink: &mut K,
-) -> Done
-    requires { IsDetailedFault text.now fault.number fault.line detail }
-    ensures not_read { result.due == READ_FAULT ≡ false }
-    ensures status { (result.status ≡ result.due) ⊎ (result.status ≡ WRITE_FAULT) }
-    ensures ends { EndsGrownAs (Some text.now) (K.written sink.old) (K.written sink.new) result }
-    ensures reason { Explains (IsGrowingFaultOf text.now) result.reason result.status
-        (K.written sink.old) (K.written sink.new) result.journal.items }
-    ensures fault { K.faults sink.new ≡ faults_after (K.faults sink.old) (result.status == WRITE_FAULT) }
+// The status that is due for a script that stopped so, or came to its end.
+fn grown_due_by(stop: Option<GrownStop>) -> u8
+    ensures { result ≡ grown_due_by stop }
 {
-    let Ok(line) = print_fault(alloc, fault) else {
-        return give_up(alloc, NO_MEMORY, Reason::NoMemory);
-    };
-    match Reason::faulty_text(alloc, fault.number, fault.line, detail, text) {
-        Ok(reason) => deliver(sink, FAULTY_TEXT, &line, Vec::new(alloc), reason),
-        Err(_) => give_up(alloc, NO_MEMORY, Reason::NoMemory),
+    match stop {
+        None => WORKED,
+        Some(GrownStop::Settle(stop)) => due_by(Some(stop)),
+        Some(GrownStop::Cut(_)) => CHANNEL_IN_USE,
     }
 }

@@ -2,29 +2,20 @@
 //! them.
 #![tactic(auto)]
 
-mod behind;
 mod checking;
 mod growing;
 pub mod laws;
 mod modes;
 mod print;
-mod reasons;
 mod report;
 mod run;
 mod script_network;
-pub mod status;
-mod stop;
 mod top;
 mod viewer;
 
-pub use checking::{TailFault, TailPlace};
+pub use checking::TailFault;
 pub use mc_seq::SettleStop;
 pub use mc_words::{Mode, read_mode};
-pub use print::print_no_box;
-pub use reasons::no_box_reason;
 pub use report::Report;
 pub use run::{Run, run_script};
-pub use top::{
-    Done, check_by_net, deliver, give_up, media_top, refuse_tail, refuse_text, refuse_words,
-    text_of,
-};
+pub use top::{check_by_net, media_top, text_of};

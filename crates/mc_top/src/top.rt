@@ -1,76 +1,59 @@
 // The top call.
-ghost use Rattle.std.specs.Prelude.{◌≡◌, ◌≢◌, ◌⊎◌, ◌==◌, ◌≤◌, ◌<◌, ◌-◌, ◌^◌, ℕ, Bool, List, [], false, length, map, All, IfErr, IfOk, IsFalse, IsTrue, None, Option, Some};
-ghost use Rattle.mc_explain.specs.Reasons.{IsFaultOfJournal, IsTextFault};
+ghost use Rattle.std.specs.Prelude.{◌≡◌, ◌⊎◌, ◌==◌, ◌≤◌, ◌<◌, ◌-◌, ◌^◌, ℕ, List, [], false, length, map, IfErr, IfOk, IsFalse, IsTrue, Some};
+ghost use Rattle.mc_call.specs.Answers.{Answers};
+ghost use Rattle.mc_call.specs.Behind.{HasJournal, has_bad_tail, tail_lines};
+ghost use Rattle.mc_call.specs.Calls.{Delivers, GivesUp, HasReadWhole, PrintsUsage};
+ghost use Rattle.mc_call.specs.Reasons.{EndsFor, Explains, IsFaultOf, IsFaultOfTold, usage_reason};
+ghost use Rattle.mc_call.specs.Statuses.{due_by, judges_text, keeps_journal};
+ghost use Rattle.mc_cause.specs.CauseLaws.{NoneCloses};
 ghost use Rattle.mc_grown_rest.specs.GrowingTexts.{CanGrow};
 ghost use Rattle.mc_io.specs.Bytes.{ConsumesAtMost};
 ghost use Rattle.mc_io.specs.Faults.{Rose, faults_after, is_failed_read};
-ghost use Rattle.mc_journal.specs.Printed.{IsNamedLine};
-ghost use Rattle.mc_model.specs.Shapes.{AreAllAllowed};
-ghost use Rattle.mc_net.specs.Details.{fault_detail};
-ghost use Rattle.mc_net.specs.Nets.{DeclaresNet, NamesAll, batch_turns};
 ghost use Rattle.mc_lines.specs.Rules.{read_limit};
-ghost use Rattle.mc_net.specs.Texts.{IsFault};
 ghost use Rattle.mc_lines.specs.declared.limit.TheConstants.{COMMAND_LIMIT};
 ghost use Rattle.mc_lines.specs.declared.tail.Tail.TheVariants.{Grow, Journal};
-ghost use Rattle.mc_net.specs.declared.net.Net.{Net};
-ghost use Rattle.mc_cause.specs.CauseLaws.{NoneCloses};
+ghost use Rattle.mc_model.specs.Shapes.{AreAllAllowed};
+ghost use Rattle.mc_net.specs.Nets.{DeclaresNet, NamesAll, batch_turns};
 ghost use Rattle.mc_replay.specs.Faults.{RefusesLines};
 ghost use Rattle.mc_replay.specs.Journals.{HoldsAtSettles, IsJournal};
 ghost use Rattle.mc_replay.specs.Segments.{EachKeepsShiftLimit};
 ghost use Rattle.mc_scene.specs.Outputs.{scene_output};
 ghost use Rattle.mc_scene.specs.declared.scenes.Scene.{Scene};
 ghost use Rattle.mc_script.specs.Places.{Fits};
-ghost use Rattle.mc_top.specs.Behind.{HasJournal, HasJournalFault, IsLineOfFault, has_bad_tail, tail_lines};
-ghost use Rattle.mc_top.specs.Refusals.{RefusesCheckBy, RefusesTail};
+ghost use Rattle.mc_top.specs.Asked.{AskFor};
 ghost use Rattle.mc_top.specs.Drawn.{FollowsDraws};
 ghost use Rattle.mc_top.specs.Growing.{EndsGrownAs, IsGrowingFaultOfTold};
 ghost use Rattle.mc_top.specs.Journals.{IsJournalTo, ShowsCause};
-ghost use Rattle.mc_top.specs.Modes.{AsksToRead, IsWithinLimits, IsWorkable, checks, draws_from, has_box, reads, report_of, tail_of, text_for};
+ghost use Rattle.mc_top.specs.Modes.{AsksToRead, IsFaultByWords, IsWithinLimits, IsWorkable, checks, draws_from, has_box, reads, report_of, tail_of, text_for};
 ghost use Rattle.mc_top.specs.Printed.{checked_text, run_text};
-ghost use Rattle.mc_top.specs.Reasons.{EndsFor, Explains, IsFaultByWords, IsFaultOf, IsFaultOfTold, usage_reason};
-ghost use Rattle.mc_top.specs.Statuses.{IsDue, IsDueForGrowing, IsDueForMode, IsDueForText, due_by, judges_growing, judges_text, keeps_journal};
-ghost use Rattle.mc_top.specs.Top.{Delivers, EndsAs, GivesUp, HasReadWhole, IsTextFor, PrintsUsage, ReadsFor};
-ghost use Rattle.mc_words.specs.Commands.{AsksToGrow, IsCommand};
-ghost use Rattle.mc_words.specs.Commands.{prints_journal};
+ghost use Rattle.mc_top.specs.Refusals.{RefusesCheckBy, RefusesTail};
+ghost use Rattle.mc_top.specs.Statuses.{IsDue, IsDueForMode, IsDueForText, judges_growing};
+ghost use Rattle.mc_top.specs.Top.{EndsAs, IsTextFor, ReadsFor};
+ghost use Rattle.mc_words.specs.Commands.{AsksToGrow, IsCommand, prints_journal};
 ghost use Rattle.mc_words.specs.declared.words.Mode.{Mode};
 ghost use Rattle.mc_words.specs.declared.words.Mode.TheVariants.{Check, Scene as AScene};
 
-use crate::behind::{journal_behind, journal_line};
-use crate::checking::{TailFault, TailPlace, check_script, tell_script};
+use crate::checking::{TailFault, check_script, tell_script};
 use crate::growing::grow;
 use crate::modes::{draws_from, has_box, report_of, tail_of};
-use crate::print::{print_fault, print_journal_fault, print_no_box};
-use crate::reasons::{no_box_reason, reason_of};
 use crate::run::{Run, run_script, with_journal};
-use crate::status::{
-    FAULTY_TEXT, JOURNAL_FAULT, NO_BOX, NO_MEMORY, READ_FAULT, USAGE, WORKED, WRITE_FAULT,
-};
-use crate::stop::due_by;
 use mc_box::Shape;
+use mc_call::status::{NO_MEMORY, READ_FAULT, USAGE, WORKED, WRITE_FAULT};
+use mc_call::{
+    Done, TailPlace, deliver, due_by, give_up, journal_behind, journal_line, refuse_journal,
+    refuse_name, refuse_text, refuse_words, stop_reason,
+};
 use mc_explain::Reason;
-use mc_io::{Gate, Sink, Source, SourceFault, read_up_to, write_whole};
-use mc_net::{JOURNAL_TEXT_LIMIT, Net, NetFault, TEXT_LIMIT, TextFault, fault_detail, read_net};
+use mc_io::{Gate, Sink, Source, SourceFault, read_up_to};
+use mc_net::{JOURNAL_TEXT_LIMIT, Net, NetFault, TEXT_LIMIT, read_net};
 use mc_replay::ReplayFault;
 use mc_scene::{generated, scene_text};
 use mc_script::{Batch, JournalLine, JournalText};
 use mc_text::Names;
-use mc_words::{Mode, asks_for_help, asks_to_grow, read_mode};
+use mc_words::{Mode, asks_to_grow, read_mode};
 use mc_world::World;
 use std::alloc::{AllocError, Global};
 use std::thread::Threads;
-
-/// How a call of the program ended.
-///
-/// `status` is one of `mc_top::status`, and `due` the status that would stand had no write failed. The journal
-/// holds what was settled or checked, and the turns up to a stop, where the due status keeps a journal, and else
-/// nothing. `reason` says why the status is what it is.
-#[derive(Debug, Drop)]
-pub struct Done {
-    pub status: u8,
-    pub due: u8,
-    pub journal: Vec<JournalLine>,
-    pub reason: Reason,
-}
 
 /// The text that a mode works on: what the source has left, up to one byte more than the limit, or the mode's own.
 pub fn text_of<S: Source>(alloc: Global, mode: Mode, source: &mut S) -> Result<Vec<u8>, SourceFault>
@@ -92,34 +75,6 @@ pub fn text_of<S: Source>(alloc: Global, mode: Mode, source: &mut S) -> Result<V
     }
 }
 
-/// Writes what is due. A call that can't write it whole ends with `WRITE_FAULT` in place of the due status.
-pub fn deliver<K: Sink>(
-    sink: &mut K,
-    due: u8,
-    output: &[u8],
-    journal: Vec<JournalLine>,
-    reason: Reason,
-) -> Done
-    requires due { due ≢ WRITE_FAULT }
-    ensures delivers { Delivers result.status due (K.written sink.old) (K.written sink.new) output.now }
-    ensures due { result.due ≡ due }
-    ensures status { (result.status ≡ due) ⊎ (result.status ≡ WRITE_FAULT) }
-    ensures journal { result.journal ≡ journal }
-    ensures reason { EndsFor reason due result }
-    ensures fault { K.faults sink.new ≡ faults_after (K.faults sink.old) (result.status == WRITE_FAULT) }
-{
-    let (status, reason) = match write_whole(sink, output) {
-        Ok(()) => (due, reason),
-        Err(_) => (WRITE_FAULT, Reason::WriteFault),
-    };
-    Done {
-        status,
-        due,
-        journal,
-        reason,
-    }
-}
-
 // Writes what a script printed.
 fn deliver_run<K: Sink>(sink: &mut K, run: Run, reason: Reason) -> Done
     ensures delivers { Delivers result.status result.due (K.written sink.old) (K.written sink.new) run.output.items }
@@ -138,105 +93,8 @@ fn deliver_run<K: Sink>(sink: &mut K, run: Run, reason: Reason) -> Done
     deliver(sink, due, &output, journal, reason)
 }
 
-/// A call that ended before there was anything to write.
-pub fn give_up(alloc: Global, status: u8, reason: Reason) -> Done
-    ensures status { result.status ≡ status }
-    ensures due { result.due ≡ status }
-    ensures journal { result.journal.items ≡ [] }
-    ensures reason { result.reason ≡ reason }
-{
-    Done {
-        status,
-        due: status,
-        journal: Vec::new(alloc),
-        reason,
-    }
-}
-
-// Writes the line of a text's first fault.
-fn refuse<K: Sink>(
-    alloc: Global,
-    mode: Mode,
-    text: &[u8],
-    fault: TextFault,
-    reason: Reason,
-    sink: &mut K,
-) -> Done
-    requires fault { IsFault (tail_of mode) text.now fault.number fault.line }
-    requires told { IsTextFault fault.number fault.line
-        (fault_detail (tail_of mode) text.now fault.number fault.line) text.now reason }
-    ensures statuses { (result.due ≡ FAULTY_TEXT) ⊎ (result.due ≡ NO_MEMORY) }
-    ensures status { (result.status ≡ result.due) ⊎ (result.status ≡ WRITE_FAULT) }
-    ensures ends { EndsAs mode (Some text.now) (K.written sink.old) (K.written sink.new) result }
-    ensures reason { Explains (IsFaultOf (tail_of mode) text.now) result.reason result.status
-        (K.written sink.old) (K.written sink.new) result.journal.items }
-    ensures fault { K.faults sink.new ≡ faults_after (K.faults sink.old) (result.status == WRITE_FAULT) }
-{
-    match print_fault(alloc, fault) {
-        Ok(line) => deliver(sink, FAULTY_TEXT, &line, Vec::new(alloc), reason),
-        Err(_) => give_up(alloc, NO_MEMORY, Reason::NoMemory),
-    }
-}
-
-/// Writes the line of a text's first fault, as each mode does that reads the text. The line of the text and what else is
-/// known of its fault are kept for what is told.
-pub fn refuse_text<K: Sink>(
-    alloc: Global,
-    mode: Mode,
-    text: &[u8],
-    fault: TextFault,
-    sink: &mut K,
-) -> Done
-    requires { IsFault (tail_of mode) text.now fault.number fault.line }
-    ensures statuses { (result.due ≡ FAULTY_TEXT) ⊎ (result.due ≡ NO_MEMORY) }
-    ensures status { (result.status ≡ result.due) ⊎ (result.status ≡ WRITE_FAULT) }
-    ensures ends { EndsAs mode (Some text.now) (K.written sink.old) (K.written sink.new) result }
-    ensures reason { Explains (IsFaultOf (tail_of mode) text.now) result.reason result.status
-        (K.written sink.old) (K.written sink.new) result.journal.items }
-    ensures fault { K.faults sink.new ≡ faults_after (K.faults sink.old) (result.status == WRITE_FAULT) }
-{
-    let Ok(detail) = fault_detail(alloc, text, tail_of(mode), fault) else {
-        return give_up(alloc, NO_MEMORY, Reason::NoMemory);
-    };
-    match Reason::faulty_text(alloc, fault.number, fault.line, detail, text) {
-        Ok(reason) => refuse(alloc, mode, text, fault, reason, sink),
-        Err(_) => give_up(alloc, NO_MEMORY, Reason::NoMemory),
-    }
-}
-
-// Runs a script. After what it prints stands its journal, where the mode asks for it: all that is in the journal of a
-// script that comes to its end is named.
-fn run_by_mode<R: Threads + Sync, G: Gate + Sync>(
-    rt: &R,
-    alloc: Global,
-    gate: &G,
-    mode: Mode,
-    names: &Names,
-    world: World,
-    batches: &[Batch],
-) -> Result<Run, AllocError>
-    requires named { NamesAll names.now world }
-    requires who { IsTrue (has_box mode names.now world) }
-    requires lines { (journal : List JournalLine) → IsJournalTo None world (map batch_turns batches.now) journal
-        → All (IsNamedLine names.now) journal }
-    requires allowed { AreAllAllowed world (map batch_turns batches.now) }
-    requires few { length batches.now ≤ COMMAND_LIMIT }
-    ensures ran { IfOk result (λ run. IsJournalTo run.stop world (map batch_turns batches.now) run.journal.items) }
-    ensures drawn { IfOk result (λ run.
-        FollowsDraws (draws_from mode) run.stop world (map batch_turns batches.now) run.journal.items) }
-    ensures shift_limit { IfOk result (λ run. EachKeepsShiftLimit run.journal.items) }
-    ensures holds { IfOk result (λ run. HoldsAtSettles world run.journal.items) }
-    ensures shows { IfOk result (λ run. ShowsCause run.stop world (map batch_turns batches.now)) }
-    ensures output { IfOk result (λ run. run.output.items
-        ≡ run_text (report_of mode names.now) (prints_journal mode) names.now world run.stop run.journal.items) }
-{
-    let draws = draws_from(mode);
-    let report = report_of(mode, names);
-    let run = run_script(rt, alloc, gate, report, names, world, draws, batches)?;
-    with_journal(alloc, mode.prints_journal(), names, run)
-}
-
-// The same by the network that a text declares.
+// Runs the script of the network that a text declares. After what it prints stands its journal, where the mode asks for
+// it: all that is in the journal of a script that comes to its end is named.
 fn run_by_net<R: Threads + Sync, G: Gate + Sync>(
     rt: &R,
     alloc: Global,
@@ -267,7 +125,10 @@ fn run_by_net<R: Threads + Sync, G: Gate + Sync>(
         ..
     } = net;
     world.keeps();
-    run_by_mode(rt, alloc, gate, mode, &names, world, &batches)
+    let draws = draws_from(mode);
+    let report = report_of(mode, &names);
+    let run = run_script(rt, alloc, gate, report, &names, world, draws, &batches)?;
+    with_journal(alloc, mode.prints_journal(), &names, run)
 }
 
 // Runs the script of the network that a text declares, and writes what it prints.
@@ -286,123 +147,18 @@ fn run_net<R: Threads + Sync, K: Sink, G: Gate + Sync>(
     requires who { IsTrue (has_box mode net.names net.world) }
     requires allowed { AreAllAllowed net.world (map batch_turns net.batches.items) }
     requires few { length net.batches.items ≤ COMMAND_LIMIT }
-    ensures statuses { IsDueForText result.due }
-    ensures status { (result.status ≡ result.due) ⊎ (result.status ≡ WRITE_FAULT) }
     ensures ends { EndsAs mode (Some text.now) (K.written sink.old) (K.written sink.new) result }
-    ensures reason { Explains (IsFaultOf (tail_of mode) text.now) result.reason result.status
-        (K.written sink.old) (K.written sink.new) result.journal.items }
-    ensures fault { K.faults sink.new ≡ faults_after (K.faults sink.old) (result.status == WRITE_FAULT) }
+    ensures answers { Answers IsDueForText (IsFaultOf (tail_of mode) text.now)
+        (K.written sink.old) (K.written sink.new) (K.faults sink.old) (K.faults sink.new) result }
 {
     net.world.keeps();
     let Ok(run) = run_by_net(rt, alloc, gate, mode, text, net) else {
         return give_up(alloc, NO_MEMORY, Reason::NoMemory);
     };
-    let Ok(reason) = reason_of(alloc, &run) else {
+    let Ok(reason) = stop_reason(alloc, run.stop, &run.output, &run.journal) else {
         return give_up(alloc, NO_MEMORY, Reason::NoMemory);
     };
     deliver_run(sink, run, reason)
-}
-
-// Writes the line that says that no feature has the name of the box that a mode is about.
-fn refuse_box<K: Sink>(
-    alloc: Global,
-    mode: Mode,
-    text: &[u8],
-    names: &Names,
-    world: &World,
-    sink: &mut K,
-) -> Done
-    requires named { NamesAll names.now world.now }
-    requires none { IsFalse (has_box mode names.now world.now) }
-    ensures statuses { (result.due ≡ NO_BOX) ⊎ (result.due ≡ NO_MEMORY) }
-    ensures status { (result.status ≡ result.due) ⊎ (result.status ≡ WRITE_FAULT) }
-    ensures ends { (net : Net) → DeclaresNet (tail_of mode) text.now net → net.names ≡ names.now
-        → net.world ≡ world.now → EndsAs mode (Some text.now) (K.written sink.old) (K.written sink.new) result }
-    ensures reason { (net : Net) → DeclaresNet (tail_of mode) text.now net → net.names ≡ names.now
-        → net.world ≡ world.now → Explains (IsFaultOf (tail_of mode) text.now) result.reason result.status
-        (K.written sink.old) (K.written sink.new) result.journal.items }
-    ensures fault { K.faults sink.new ≡ faults_after (K.faults sink.old) (result.status == WRITE_FAULT) }
-{
-    let name = mode.box_name();
-    let Ok(reason) = no_box_reason(alloc, name, names, world) else {
-        return give_up(alloc, NO_MEMORY, Reason::NoMemory);
-    };
-    match print_no_box(alloc, name) {
-        Ok(line) => deliver(sink, NO_BOX, &line, Vec::new(alloc), reason),
-        Err(_) => give_up(alloc, NO_MEMORY, Reason::NoMemory),
-    }
-}
-
-// Runs the script of the network that a text declares, if it has the box that the mode is about.
-fn run_boxed<R: Threads + Sync, K: Sink, G: Gate + Sync>(
-    rt: &R,
-    alloc: Global,
-    gate: &G,
-    mode: Mode,
-    text: &[u8],
-    net: Net,
-    sink: &mut K,
-) -> Done
-    requires runs { checks mode ≡ false }
-    requires declares { DeclaresNet (tail_of mode) text.now net }
-    requires named { NamesAll net.names net.world }
-    requires allowed { AreAllAllowed net.world (map batch_turns net.batches.items) }
-    requires few { length net.batches.items ≤ COMMAND_LIMIT }
-    ensures statuses { IsDueForText result.due }
-    ensures status { (result.status ≡ result.due) ⊎ (result.status ≡ WRITE_FAULT) }
-    ensures ends { EndsAs mode (Some text.now) (K.written sink.old) (K.written sink.new) result }
-    ensures reason { Explains (IsFaultOf (tail_of mode) text.now) result.reason result.status
-        (K.written sink.old) (K.written sink.new) result.journal.items }
-    ensures fault { K.faults sink.new ≡ faults_after (K.faults sink.old) (result.status == WRITE_FAULT) }
-{
-    if has_box(mode, &net.names, &net.world) {
-        run_net(rt, alloc, gate, mode, text, net, sink)
-    } else {
-        refuse_box(alloc, mode, text, &net.names, &net.world, sink)
-    }
-}
-
-// Writes the line of a journal's first fault.
-fn refuse_journal<K: Sink>(
-    alloc: Global,
-    text: &[u8],
-    place: TailPlace,
-    reason: Reason,
-    sink: &mut K,
-) -> Done
-    requires told { IsFaultOfJournal place.number place.turn place.line text.now reason }
-    ensures statuses { (result.due ≡ JOURNAL_FAULT) ⊎ (result.due ≡ NO_MEMORY) }
-    ensures status { (result.status ≡ result.due) ⊎ (result.status ≡ WRITE_FAULT) }
-    ensures ends { (why : Bool) (net : Net) → DeclaresNet Journal text.now net
-        → HasJournalFault text.now net place.number place.turn
-        → EndsAs (Check why) (Some text.now) (K.written sink.old) (K.written sink.new) result }
-    ensures reason { (net : Net) → DeclaresNet Journal text.now net → IsLineOfFault text.now net place.line
-        → Explains (IsFaultOf Journal text.now) result.reason result.status
-        (K.written sink.old) (K.written sink.new) result.journal.items }
-    ensures fault { K.faults sink.new ≡ faults_after (K.faults sink.old) (result.status == WRITE_FAULT) }
-{
-    match print_journal_fault(alloc, place.number, place.turn) {
-        Ok(line) => deliver(sink, JOURNAL_FAULT, &line, Vec::new(alloc), reason),
-        Err(_) => give_up(alloc, NO_MEMORY, Reason::NoMemory),
-    }
-}
-
-/// Writes the line of a journal's first fault, as `check` does. The line of the text is kept for what is told.
-pub fn refuse_tail<K: Sink>(alloc: Global, text: &[u8], place: TailPlace, sink: &mut K) -> Done
-    ensures statuses { (result.due ≡ JOURNAL_FAULT) ⊎ (result.due ≡ NO_MEMORY) }
-    ensures status { (result.status ≡ result.due) ⊎ (result.status ≡ WRITE_FAULT) }
-    ensures ends { (why : Bool) (net : Net) → DeclaresNet Journal text.now net
-        → HasJournalFault text.now net place.number place.turn
-        → EndsAs (Check why) (Some text.now) (K.written sink.old) (K.written sink.new) result }
-    ensures reason { (net : Net) → DeclaresNet Journal text.now net → IsLineOfFault text.now net place.line
-        → Explains (IsFaultOf Journal text.now) result.reason result.status
-        (K.written sink.old) (K.written sink.new) result.journal.items }
-    ensures fault { K.faults sink.new ≡ faults_after (K.faults sink.old) (result.status == WRITE_FAULT) }
-{
-    match Reason::faulty_journal(alloc, place.number, place.turn, place.line, text) {
-        Ok(reason) => refuse_journal(alloc, text, place, reason, sink),
-        Err(_) => give_up(alloc, NO_MEMORY, Reason::NoMemory),
-    }
 }
 
 // Checks a journal, and prints what it settles, with why paths closed or without it.
@@ -502,22 +258,20 @@ fn check_net<K: Sink>(alloc: Global, why: bool, text: &[u8], net: Net, sink: &mu
     requires declares { DeclaresNet Journal text.now net }
     requires named { NamesAll net.names net.world }
     requires allowed { AreAllAllowed net.world (map batch_turns net.batches.items) }
-    ensures statuses { IsDueForText result.due }
-    ensures status { (result.status ≡ result.due) ⊎ (result.status ≡ WRITE_FAULT) }
     ensures ends { EndsAs (Check why) (Some text.now) (K.written sink.old) (K.written sink.new) result }
-    ensures reason { Explains (IsFaultOf Journal text.now) result.reason result.status
-        (K.written sink.old) (K.written sink.new) result.journal.items }
-    ensures fault { K.faults sink.new ≡ faults_after (K.faults sink.old) (result.status == WRITE_FAULT) }
+    ensures answers { Answers IsDueForText (IsFaultOf Journal text.now)
+        (K.written sink.old) (K.written sink.new) (K.faults sink.old) (K.faults sink.new) result }
 {
     net.world.keeps();
     match check_by_net(alloc, why, text, net) {
         Ok((output, lines)) => deliver(sink, WORKED, &output, lines, Reason::Worked),
-        Err(TailFault::At(place)) => refuse_tail(alloc, text, place, sink),
+        Err(TailFault::At(place)) => refuse_journal(alloc, text, place, sink),
         Err(TailFault::NoMemory(_)) => give_up(alloc, NO_MEMORY, Reason::NoMemory),
     }
 }
 
-// Does a mode's work on the network that a text declares.
+// Does a mode's work on the network that a text declares: it checks the journal after the text, or runs the script, if
+// the network has the box that the mode is about.
 fn work_on<R: Threads + Sync, K: Sink, G: Gate + Sync>(
     rt: &R,
     alloc: Global,
@@ -532,16 +286,19 @@ fn work_on<R: Threads + Sync, K: Sink, G: Gate + Sync>(
     requires named { NamesAll net.names net.world }
     requires allowed { AreAllAllowed net.world (map batch_turns net.batches.items) }
     requires few { length net.batches.items ≤ COMMAND_LIMIT }
-    ensures statuses { IsDueForText result.due }
-    ensures status { (result.status ≡ result.due) ⊎ (result.status ≡ WRITE_FAULT) }
     ensures ends { EndsAs mode (Some text.now) (K.written sink.old) (K.written sink.new) result }
-    ensures reason { Explains (IsFaultOf (tail_of mode) text.now) result.reason result.status
-        (K.written sink.old) (K.written sink.new) result.journal.items }
-    ensures fault { K.faults sink.new ≡ faults_after (K.faults sink.old) (result.status == WRITE_FAULT) }
+    ensures answers { Answers IsDueForText (IsFaultOf (tail_of mode) text.now)
+        (K.written sink.old) (K.written sink.new) (K.faults sink.old) (K.faults sink.new) result }
 {
     match mode {
         Mode::Check { why } => check_net(alloc, why, text, net, sink),
-        _ => run_boxed(rt, alloc, gate, mode, text, net, sink),
+        _ => {
+            if has_box(mode, &net.names, &net.world) {
+                run_net(rt, alloc, gate, mode, text, net, sink)
+            } else {
+                refuse_name(alloc, mode.box_name(), &net.names, &net.world, sink)
+            }
+        }
     }
 }
 
@@ -555,16 +312,14 @@ fn run_text<R: Threads + Sync, K: Sink, G: Gate + Sync>(
     sink: &mut K,
 ) -> Done
     requires short { IsTrue (reads mode) → length text.now ≤ read_limit (tail_of mode) }
-    ensures statuses { IsDueForText result.due }
-    ensures status { (result.status ≡ result.due) ⊎ (result.status ≡ WRITE_FAULT) }
     ensures ends { EndsAs mode (Some text.now) (K.written sink.old) (K.written sink.new) result }
-    ensures reason { Explains (IsFaultOf (tail_of mode) text.now) result.reason result.status
-        (K.written sink.old) (K.written sink.new) result.journal.items }
-    ensures fault { K.faults sink.new ≡ faults_after (K.faults sink.old) (result.status == WRITE_FAULT) }
+    ensures answers { Answers IsDueForText (IsFaultOf (tail_of mode) text.now)
+        (K.written sink.old) (K.written sink.new) (K.faults sink.old) (K.faults sink.new) result }
 {
-    match read_net(alloc, text, tail_of(mode)) {
+    let tail = tail_of(mode);
+    match read_net(alloc, text, tail) {
         Ok(net) => work_on(rt, alloc, gate, mode, text, net, sink),
-        Err(NetFault::Line(fault)) => refuse_text(alloc, mode, text, fault, sink),
+        Err(NetFault::Line(fault)) => refuse_text(alloc, tail, text, fault, sink),
         Err(NetFault::NoMemory(_)) => give_up(alloc, NO_MEMORY, Reason::NoMemory),
     }
 }
@@ -579,8 +334,6 @@ fn run_mode<R: Threads + Sync, S: Source, K: Sink, G: Gate + Sync>(
     sink: &mut K,
 ) -> Done
     requires { IsWithinLimits mode }
-    ensures statuses { IsDueForMode result.due }
-    ensures status { (result.status ≡ result.due) ⊎ (result.status ≡ WRITE_FAULT) }
     ensures ends { EndsAs mode (text_for mode (S.left source.old)) (K.written sink.old) (K.written sink.new) result }
     ensures unread { IsFalse (reads mode) → source.new ≡ source.old }
     ensures made { IsFalse (reads mode) → (result.due ≡ WORKED) ⊎ (result.due ≡ NO_MEMORY) }
@@ -588,9 +341,8 @@ fn run_mode<R: Threads + Sync, S: Source, K: Sink, G: Gate + Sync>(
         → HasReadWhole (tail_of mode) (S.left source.old) (S.left source.new) }
     ensures at_most { ConsumesAtMost (S.left source.old) (S.left source.new) (read_limit (tail_of mode)) }
     ensures read_fault { S.faults source.new ≡ faults_after (S.faults source.old) (result.due == READ_FAULT) }
-    ensures reason { Explains (IsFaultOfTold (tail_of mode) (text_for mode (S.left source.old))) result.reason
-        result.status (K.written sink.old) (K.written sink.new) result.journal.items }
-    ensures write_fault { K.faults sink.new ≡ faults_after (K.faults sink.old) (result.status == WRITE_FAULT) }
+    ensures answers { Answers IsDueForMode (IsFaultOfTold (tail_of mode) (text_for mode (S.left source.old)))
+        (K.written sink.old) (K.written sink.new) (K.faults sink.old) (K.faults sink.new) result }
 {
     match text_of(alloc, mode, source) {
         Ok(text) => run_text(rt, alloc, gate, mode, &text, sink),
@@ -599,76 +351,25 @@ fn run_mode<R: Threads + Sync, S: Source, K: Sink, G: Gate + Sync>(
     }
 }
 
-/// Writes the line for words that are no command. Those that ask for help are told the commands without a complaint.
-pub fn refuse_words<K: Sink>(alloc: Global, words: &[String], sink: &mut K) -> Done
-    ensures output { PrintsUsage (K.written sink.old) (K.written sink.new) result }
-    ensures due { result.due ≡ USAGE }
-    ensures status { (result.status ≡ USAGE) ⊎ (result.status ≡ WRITE_FAULT) }
-    ensures journal { result.journal.items ≡ [] }
-    ensures told { EndsFor (usage_reason words.now) USAGE result }
-    ensures reason { (left : Option (List ℕ)) → Explains (IsFaultByWords words.now left) result.reason result.status
-        (K.written sink.old) (K.written sink.new) result.journal.items }
-    ensures fault { K.faults sink.new ≡ faults_after (K.faults sink.old) (result.status == WRITE_FAULT) }
-{
-    deliver(
-        sink,
-        USAGE,
-        b"usage\n",
-        Vec::new(alloc),
-        usage_reason(words),
-    )
+// What words ask for.
+#[derive(Drop)]
+enum Asked {
+    Work(Mode),
+    Grow,
+    Nothing,
 }
 
-// What is to be told of words that are no command.
-fn usage_reason(words: &[String]) -> Reason
-    ensures { result ≡ usage_reason words.now }
+// What the words ask for: nothing where they are no command.
+fn read_words(alloc: Global, words: &[String]) -> Result<Asked, AllocError>
+    ensures { IfOk result (AskFor words.now) }
 {
-    if asks_for_help(words) {
-        Reason::Help
-    } else {
-        Reason::Usage
+    if let Some(mode) = read_mode(alloc, words)? {
+        return Ok(Asked::Work(mode));
     }
-}
-
-// Does what words ask for that ask for no mode.
-fn without_mode<R: Threads + Sync, S: Source, K: Sink, G: Gate + Sync>(
-    rt: &R,
-    alloc: Global,
-    gate: &G,
-    words: &[String],
-    source: &mut S,
-    sink: &mut K,
-) -> Done
-    requires none { (mode : Mode) → ¬ IsCommand words.now mode }
-    ensures statuses { (result.due ≡ USAGE) ⊎ IsDueForGrowing result.due }
-    ensures status { (result.status ≡ result.due) ⊎ (result.status ≡ WRITE_FAULT) }
-    ensures usage { result.due ≡ USAGE → ¬ AsksToGrow words.now }
-    ensures usage_output { result.due ≡ USAGE → PrintsUsage (K.written sink.old) (K.written sink.new) result }
-    ensures ends { AsksToGrow words.now
-        → EndsGrownAs (S.left source.old) (K.written sink.old) (K.written sink.new) result }
-    ensures no_command { ¬ AsksToGrow words.now
-        → (result.due ≡ USAGE) ⊎ GivesUp (K.written sink.old) (K.written sink.new) result }
-    ensures no_journal { IsFalse (keeps_journal result.due) → result.journal.items ≡ [] }
-    ensures unread { ¬ AsksToGrow words.now → source.new ≡ source.old }
-    ensures read_whole { AsksToGrow words.now → IsTrue (judges_growing result.due)
-        → HasReadWhole Grow (S.left source.old) (S.left source.new) }
-    ensures at_most { AsksToGrow words.now
-        → ConsumesAtMost (S.left source.old) (S.left source.new) (read_limit Grow) }
-    ensures read_fault { S.faults source.new ≡ faults_after (S.faults source.old) (result.due == READ_FAULT) }
-    ensures write_fault { K.faults sink.new ≡ faults_after (K.faults sink.old) (result.status == WRITE_FAULT) }
-    ensures reason { (left : Option (List ℕ)) → Explains (IsFaultByWords words.now left) result.reason result.status
-        (K.written sink.old) (K.written sink.new) result.journal.items }
-    ensures reason_grown { AsksToGrow words.now → Explains (IsGrowingFaultOfTold (S.left source.old)) result.reason
-        result.status (K.written sink.old) (K.written sink.new) result.journal.items }
-    ensures usage_reason { result.due ≡ USAGE → EndsFor (usage_reason words.now) USAGE result }
-{
-    let Ok(grows) = asks_to_grow(alloc, words) else {
-        return give_up(alloc, NO_MEMORY, Reason::NoMemory);
-    };
-    if grows {
-        grow(rt, alloc, gate, source, sink)
+    if asks_to_grow(alloc, words)? {
+        Ok(Asked::Grow)
     } else {
-        refuse_words(alloc, words, sink)
+        Ok(Asked::Nothing)
     }
 }
 
@@ -750,11 +451,12 @@ pub fn media_top<R: Threads + Sync, S: Source, K: Sink, G: Gate + Sync>(
     ensures stated { (scene : Scene) → IsCommand words.items (AScene scene) → result.due ≡ WORKED
         → Delivers result.status WORKED (K.written sink.old) (K.written sink.new) (scene_output scene) }
 {
-    let Ok(read) = read_mode(alloc, &words) else {
+    let Ok(asked) = read_words(alloc, &words) else {
         return give_up(alloc, NO_MEMORY, Reason::NoMemory);
     };
-    let Some(mode) = read else {
-        return without_mode(rt, alloc, gate, &words, source, sink);
-    };
-    run_mode(rt, alloc, gate, mode, source, sink)
+    match asked {
+        Asked::Work(mode) => run_mode(rt, alloc, gate, mode, source, sink),
+        Asked::Grow => grow(rt, alloc, gate, source, sink),
+        Asked::Nothing => refuse_words(alloc, &words, sink),
+    }
 }

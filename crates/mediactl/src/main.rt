@@ -3,10 +3,10 @@
 //! Where it ends with another status than 0, it tells on standard error why.
 #![tactic(auto)]
 
+use mc_call::status::{NO_MEMORY, WORKED};
 use mc_explain::{Reason, explain};
 use mc_io::{OpenGate, StdSink, StdSource};
 use mc_top::media_top;
-use mc_top::status::{NO_MEMORY, WORKED};
 use std::alloc::AllocError;
 use std::io::{Error, ErrorKind, Write};
 use std::process::ExitCode;

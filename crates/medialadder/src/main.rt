@@ -3,10 +3,10 @@
 //! error why.
 #![tactic(auto)]
 
+use mc_call::status::{NO_MEMORY, WORKED};
 use mc_explain::{Reason, explain};
 use mc_io::{StdSink, StdSource};
 use mc_ladder_top::ladder_top;
-use mc_top::status::{NO_MEMORY, WORKED};
 use std::alloc::AllocError;
 use std::io::{Error, ErrorKind, Write};
 use std::process::ExitCode;
@@ -24,6 +24,7 @@ medialadder:   medialadder --html           draws a page for a browser, with wha
 medialadder: Any of these words may stand beside them:
 medialadder:   --settles A-B                draws the settles from A to B alone, which are counted from 1
 medialadder:   --box NAME                   draws what concerns the box NAME alone; with more of them, what concerns one
+medialadder:   --up-to-fault                draws a faulty journal, too, up to its first fault, and then prints the fault
 medialadder: 'mediactl run --journal' prints a journal. Append it to its text, and both can be drawn.
 ";
 

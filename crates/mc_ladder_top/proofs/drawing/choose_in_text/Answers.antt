@@ -8,10 +8,10 @@ use Rattle.mc_top.proofs.NoneClose.{none_closes}
 use Rattle.mc_ladder_top.proofs.drawing.choose_in_text.Goals as goal
 
 pub choose_by_net-requires-clause-none : goal.choose_by_net-requires-clause-none
-choose_by_net-requires-clause-none c = none_closes c.in_ok-net.ensures.declared c.in_ok-net.net.world c.in_ok-net.ensures.world
+choose_by_net-requires-clause-none c = none_closes c.in_ok-net.ensures.declares.declared c.in_ok-net.net.world c.in_ok-net.ensures.declares.world
 
 pub returns-clause-found : goal.returns-clause-found
 returns-clause-found c = IfOk-weaker c.choose_by_net.result _ _
     (λ chosen is other declares. is ∙ ap (λ (world : WorldState). survey_of chosen.choice world c.args.journal.now)
-    (one_net Journal c.args.text.now c.in_ok-net.net other c.in_ok-net.ensures declares).world)
+    (one_net Journal c.args.text.now c.in_ok-net.net other c.in_ok-net.ensures.declares declares).world)
     c.choose_by_net.ensures.found

@@ -2,7 +2,7 @@ use Rattle.std.proofs.Common.{◌∙◌, List, ap, arith, length}
 use Rattle.mc_lines.specs.declared.tail.Tail.TheVariants.{Journal}
 use Rattle.mc_net.proofs.MadeNets.{nets_are_named}
 use Rattle.mc_script.specs.declared.command.JournalLine.{JournalLine}
-use Rattle.mc_top.proofs.BytesBehind.{lines_within}
+use Rattle.mc_call.proofs.BytesBehind.{lines_within}
 use Rattle.mc_top.proofs.NoneClose.{none_closes}
 use Rattle.mc_ladder_top.proofs.drawing.draw_checked.Goals as goal
 

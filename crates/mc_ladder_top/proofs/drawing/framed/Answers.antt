@@ -12,7 +12,7 @@ use Rattle.mc_ladder_top.proofs.drawing.framed.Goals as goal
 pub returns-in_ok-net-in-Page : goal.returns-in_ok-net-in-Page
 returns-in_ok-net-in-Page c = IfOk-weaker c.page_by_net.result _ _
     (λ page is other declares.
-    let same = one_net Journal c.args.text.now c.in_ok-net-in-Page.net other c.in_ok-net-in-Page.ensures declares in
+    let same = one_net Journal c.args.text.now c.in_ok-net-in-Page.net other c.in_ok-net-in-Page.ensures.declares declares in
     (rw c.deref.ensures.value at is)
     ∙ (ap (λ (names : NameLists). framed Page names c.args.blocks.now c.in_ok-net-in-Page.net.world c.args.journal.now c.args.ladder.items) same.names
     ∙ (ap (λ (world : WorldState). framed Page other.names c.args.blocks.now world c.args.journal.now c.args.ladder.items) same.world
