@@ -1,0 +1,13 @@
+mod Sets
+mod Freeing
+mod Askers
+mod Parts
+mod Closing
+mod Taken
+mod Allowed
+mod LeftTurns
+mod Gathered
+mod Phased
+mod Hands
+mod Seats
+mod Ended

@@ -1,0 +1,4 @@
+pub mod Asked
+pub mod Left
+pub mod Prepared
+pub mod Ran
