@@ -37,6 +37,15 @@ abbrev pub OwnEnds : Places → List ℕ → Type 0
 OwnEnds places owners = (who local : ℕ) (place : ℕ × ℕ) → slice_get (places_of places who) local ≡ Some place
     → slice_index_or owners place.0 0 ≡ who
 
+-- an end that is there, and is this box's
+abbrev pub IsOwn : List ℕ → ℕ → ℕ → Type 0
+IsOwn owners who end = (end < length owners) × (slice_index_or owners end 0 ≡ who)
+
+-- each slot of one box is at such an end
+abbrev pub AtOwnEnds : List ℕ → ℕ → List (ℕ × ℕ) → Type 0
+AtOwnEnds owners who places = (local : ℕ) (place : ℕ × ℕ) → slice_get places local ≡ Some place
+    → IsOwn owners who place.0
+
 -- each box has its places, each end its counts and its box; and the counts are within what so many turns can send and
 -- take
 pub record IsShaped (shard : LaidShard) : Type 0 where

@@ -3,6 +3,7 @@
 
 mod acting;
 mod entry;
+mod laid;
 pub mod limit;
 mod numbering;
 mod parts;
@@ -13,6 +14,7 @@ mod shard;
 mod taking;
 
 pub use entry::{AtEnd, Entry, Numbered};
+pub use laid::are_laid;
 pub use places::SlotPlaces;
 pub use refused::{Refused, ReplayFault};
 pub use shard::Shard;

@@ -1,6 +1,7 @@
 // Which channel end and which tunnel each slot of a box has.
 
-ghost use Rattle.std.specs.Prelude.{◌≡◌, ◌≢◌, ◌≤◌, ℕ, IfSome, IfNone, Some, length, slice_get};
+ghost use Rattle.std.specs.Prelude.{◌≡◌, ◌≢◌, ◌≤◌, ℕ, IfSome, IfNone, MatchBool, Some, length, slice_get};
+ghost use Rattle.mc_shard.specs.Shards.{AtOwnEnds, IsOwn};
 
 use std::marker::Model;
 
@@ -43,6 +44,35 @@ impl SlotPlaces {
     {
         find(&self.list, end, tunnel)
     }
+
+    /// Whether each slot of the box of this number is at an end that is the box's.
+    pub(crate) fn are_own(&self, who: usize, owners: &[u32]) -> bool
+        ensures { MatchBool result (AtOwnEnds owners.now who self.now) (AtOwnEnds owners.now who self.now → ⊥) }
+    {
+        all_own(&self.list, who, owners)
+    }
+}
+
+// Whether it is an end of the box.
+fn is_own(end: u32, who: usize, owners: &[u32]) -> bool
+    ensures { MatchBool result (IsOwn owners.now who end) (IsOwn owners.now who end → ⊥) }
+{
+    if end as usize >= owners.len() {
+        return false;
+    }
+    owners[end as usize] as usize == who
+}
+
+fn all_own(list: &Vec<(u32, u8)>, who: usize, owners: &[u32]) -> bool
+    ensures { MatchBool result (AtOwnEnds owners.now who list.now.items)
+        (AtOwnEnds owners.now who list.now.items → ⊥) }
+{
+    for slot in 0..list.len() {
+        if !is_own(list[slot].0, who, owners) {
+            return false;
+        }
+    }
+    true
 }
 
 fn place_in(list: &Vec<(u32, u8)>, slot: u8) -> Option<(u32, u8)>

@@ -35,7 +35,7 @@ impl Model for Shard {
 
 impl Shard {
     /// A shard of these boxes, with the places of their slots, and for each channel end its box. Nothing was sent or
-    /// taken yet.
+    /// taken yet. `are_laid` tests whether they fit together.
     pub fn new(
         alloc: Global,
         boxes: Vec<MediaBox>,
