@@ -1,0 +1,36 @@
+// What stops a test.
+
+use mc_shard::{Refused, ReplayFault};
+use std::alloc::AllocError;
+
+/// Why a shard isn't made, or makes no turn.
+#[derive(Debug, Drop)]
+pub enum TestFault {
+    /// The boxes, places and owners don't fit together.
+    Unlaid,
+    /// A request or a signal is refused.
+    Refused(Refused),
+    /// A signal was taken already.
+    Had,
+    /// An entry isn't made again.
+    Replay(ReplayFault),
+    NoMemory(AllocError),
+}
+
+impl From<Refused> for TestFault {
+    fn from(e: Refused) -> Self {
+        TestFault::Refused(e)
+    }
+}
+
+impl From<ReplayFault> for TestFault {
+    fn from(e: ReplayFault) -> Self {
+        TestFault::Replay(e)
+    }
+}
+
+impl From<AllocError> for TestFault {
+    fn from(e: AllocError) -> Self {
+        TestFault::NoMemory(e)
+    }
+}
