@@ -45,6 +45,9 @@ event_code Shift = (7, 0, 0)
 
 -- ---- and back
 
+abbrev pub medium_of : ℕ → Medium
+medium_of code = if code == 1 then Video else Audio
+
 abbrev pub goal_of : ℕ → Goal
 goal_of code = if code == 0 then ToOpen else (if code == 1 then ToClose else ToHold)
 
