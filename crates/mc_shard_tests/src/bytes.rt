@@ -25,7 +25,8 @@ fn has_bytes(rt: &impl Abort, alloc: Global, entry: &Entry, want: &[u8]) -> Resu
     Ok(())
 }
 
-const OPENS: [u8; 65] = [
+/// The bytes of the entry in which alice opens.
+pub const OPENS: [u8; 65] = [
     1, 0, 0, 0, 0, 1, 0, 0, 0, 0, 0, 0, 0, // the form, the box, the stamp
     1, 0, 0, 0, // slot 0 gets the goal open; nothing is taken
     1, 0, // one signal is sent:

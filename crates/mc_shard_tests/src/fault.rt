@@ -1,5 +1,6 @@
 // What stops a test.
 
+use mc_entry::ReadFault;
 use mc_shard::{Refused, ReplayFault};
 use std::alloc::AllocError;
 
@@ -14,6 +15,8 @@ pub enum TestFault {
     Had,
     /// An entry isn't made again.
     Replay(ReplayFault),
+    /// Bytes are no entry's, or memory ran out.
+    Read(ReadFault),
     NoMemory(AllocError),
 }
 
@@ -26,6 +29,12 @@ impl From<Refused> for TestFault {
 impl From<ReplayFault> for TestFault {
     fn from(e: ReplayFault) -> Self {
         TestFault::Replay(e)
+    }
+}
+
+impl From<ReadFault> for TestFault {
+    fn from(e: ReadFault) -> Self {
+        TestFault::Read(e)
     }
 }
 
