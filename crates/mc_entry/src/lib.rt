@@ -8,5 +8,5 @@ mod reading;
 mod whole;
 mod writing;
 
-pub use whole::{ReadFault, read_entry};
+pub use whole::{EntryFault, read_entry};
 pub use writing::write_entry;

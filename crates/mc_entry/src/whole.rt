@@ -12,7 +12,7 @@ use std::alloc::{AllocError, Global};
 
 /// Why no entry was read.
 #[derive(Clone, Copy, PartialEq, Eq, Debug)]
-pub enum ReadFault {
+pub enum EntryFault {
     /// The bytes begin with the form of no entry.
     NoEntry,
     /// Memory ran out.
@@ -58,16 +58,16 @@ fn form_len(alloc: Global, entry: &Entry, bytes: &[u8]) -> Result<Option<usize>,
 
 /// The entry that bytes begin with, and how many of them are its form. What is read is written again and compared, so
 /// bytes that are no entry's form are refused.
-pub fn read_entry(alloc: Global, bytes: &[u8]) -> Result<(Entry, usize), ReadFault>
+pub fn read_entry(alloc: Global, bytes: &[u8]) -> Result<(Entry, usize), EntryFault>
     ensures found { IfOk result (λ found. BeginsWith bytes.now found.0 found.1) }
-    ensures none { IfErr result (λ why. why ≡ ReadFault.NoEntry → BeginWithNone bytes.now) }
+    ensures none { IfErr result (λ why. why ≡ EntryFault.NoEntry → BeginWithNone bytes.now) }
 {
     let Ok(entry) = read_fields(alloc, &mut Bytes::new(bytes)) else {
-        return Err(ReadFault::NoMemory);
+        return Err(EntryFault::NoMemory);
     };
     match form_len(alloc, &entry, bytes) {
         Ok(Some(len)) => Ok((entry, len)),
-        Ok(None) => Err(ReadFault::NoEntry),
-        Err(_) => Err(ReadFault::NoMemory),
+        Ok(None) => Err(EntryFault::NoEntry),
+        Err(_) => Err(EntryFault::NoMemory),
     }
 }

@@ -5,7 +5,7 @@ use crate::calls::speak;
 use crate::equal::{is_count, is_equal};
 use crate::fault::TestFault;
 use crate::phones::{ALICE, ALICE_END, BOB, BOB_END, add, new_side};
-use mc_entry::{ReadFault, read_entry, write_entry};
+use mc_entry::{EntryFault, read_entry, write_entry};
 use mc_shard::Entry;
 use std::alloc::Global;
 use std::process::Abort;
@@ -40,8 +40,8 @@ fn begins(
 fn is_none(rt: &impl Abort, alloc: Global, bytes: &[u8]) -> Result<(), TestFault> {
     match read_entry(alloc, bytes) {
         Ok(found) => is_equal(rt, &Some(found.1), &None),
-        Err(ReadFault::NoEntry) => {}
-        Err(ReadFault::NoMemory) => return Err(TestFault::Read(ReadFault::NoMemory)),
+        Err(EntryFault::NoEntry) => {}
+        Err(EntryFault::NoMemory) => return Err(TestFault::Read(EntryFault::NoMemory)),
     }
     Ok(())
 }

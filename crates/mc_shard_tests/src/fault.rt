@@ -1,6 +1,6 @@
 // What stops a test.
 
-use mc_entry::ReadFault;
+use mc_entry::EntryFault;
 use mc_shard::{Refused, ReplayFault};
 use std::alloc::AllocError;
 
@@ -16,7 +16,7 @@ pub enum TestFault {
     /// An entry isn't made again.
     Replay(ReplayFault),
     /// Bytes are no entry's, or memory ran out.
-    Read(ReadFault),
+    Read(EntryFault),
     NoMemory(AllocError),
 }
 
@@ -32,8 +32,8 @@ impl From<ReplayFault> for TestFault {
     }
 }
 
-impl From<ReadFault> for TestFault {
-    fn from(e: ReadFault) -> Self {
+impl From<EntryFault> for TestFault {
+    fn from(e: EntryFault) -> Self {
         TestFault::Read(e)
     }
 }
