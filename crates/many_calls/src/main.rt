@@ -12,7 +12,7 @@ use crate::fault::CallsFault;
 use crate::network::network;
 use crate::script::script;
 use crate::settling::{allows_all, settle_times};
-use mc_network::limit::NETWORK_LIMIT;
+use mc_divided::limit::NETWORK_LIMIT;
 use mc_rounds::InParts;
 use std::env;
 use std::process::ExitCode;

@@ -24,7 +24,7 @@ use Rattle.mc_laws.proofs.StepKeeps.{run_keeps_sound}
 use Rattle.mc_model.specs.Sound.{IsSound}
 use Rattle.mc_model.specs.Steps.{run}
 use Rattle.mc_model.specs.Worlds.{WorldState}
-use Rattle.mc_network.specs.declared.limit.TheConstants.{NETWORK_LIMIT}
+use Rattle.mc_divided.specs.declared.limit.TheConstants.{NETWORK_LIMIT}
 use Rattle.mc_replay.specs.Journals.{lines_for}
 use Rattle.mc_script.specs.declared.command.JournalLine.{JournalLine}
 use Rattle.mc_script.specs.declared.command.JournalLine.TheVariants.{Turn as Made}

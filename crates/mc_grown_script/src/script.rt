@@ -7,7 +7,7 @@ ghost use Rattle.mc_grown_script.specs.Progress.{CameOf, CameOfBatch, EndsAt, En
 ghost use Rattle.mc_settle_text.specs.Names.{IsNamedFault};
 ghost use Rattle.mc_grown_script.specs.Scripts.{first_state};
 ghost use Rattle.mc_grown_script.specs.ScriptRuns.{EndsAs};
-ghost use Rattle.mc_network.specs.declared.limit.TheConstants.{NETWORK_LIMIT};
+ghost use Rattle.mc_divided.specs.declared.limit.TheConstants.{NETWORK_LIMIT};
 
 use crate::printing::{put_network, stop_word};
 use crate::settling::settle_grown;
@@ -197,7 +197,7 @@ fn end_at(
 /// network are printed. It ends before that at a cut of a channel that is in use, and where a batch stops; then the line
 /// of the stop is all that it prints. The boxes take turns in any order.
 ///
-/// The plans may be asked for one after another, of a network of at most `mc_network::limit::NETWORK_LIMIT` boxes; all
+/// The plans may be asked for one after another, of a network of at most `mc_divided::limit::NETWORK_LIMIT` boxes; all
 /// that will ever be in it has names.
 pub fn run_plans<R: Threads + Sync, G: Gate + Sync>(
     rt: &R,

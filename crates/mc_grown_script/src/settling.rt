@@ -3,7 +3,7 @@
 ghost use Rattle.std.specs.Prelude.{◌≡◌, ◌≤◌, length, IfErr, IfOk};
 ghost use Rattle.mc_stages.specs.Plans.{MayCommand};
 ghost use Rattle.mc_model.specs.Settles.{IsSettled};
-ghost use Rattle.mc_network.specs.declared.limit.TheConstants.{NETWORK_LIMIT};
+ghost use Rattle.mc_divided.specs.declared.limit.TheConstants.{NETWORK_LIMIT};
 ghost use Rattle.mc_rounds.specs.Stops.{Stops};
 ghost use Rattle.mc_seq.specs.ShiftLimit.{KeepsShiftLimit};
 

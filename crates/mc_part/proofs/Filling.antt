@@ -8,9 +8,9 @@ use Rattle.std.proofs.lemmas.List.FromFn.{fill_by_all, get_or-map-range_with_len
 use Rattle.std.specs.List.{AllByRecursion, range_with_len}
 use Rattle.mc_model.specs.Worlds.{ChannelState}
 use Rattle.mc_model.specs.declared.channel.Tunnel.{Tunnel}
-use Rattle.mc_part.specs.CutLaws.{NonePastParts}
-use Rattle.mc_part.specs.Cuts.{channel_in, channels_from, home_at, is_crossing, is_inner, is_part, members, members_from, part_of, tunnel_in, tunnels_in}
-use Rattle.mc_part.specs.Cutting.{AreNumbersIn, count_of, counts_of}
+use Rattle.mc_part.specs.DivisionLaws.{NonePastParts}
+use Rattle.mc_part.specs.Divisions.{channel_in, channels_from, home_at, is_crossing, is_inner, is_part, members, members_from, part_of, tunnel_in, tunnels_in}
+use Rattle.mc_part.specs.DividedParts.{AreNumbersIn, count_of, counts_of}
 use Rattle.mc_part.proofs.Placed.{channel_count}
 use Rattle.mc_part.proofs.Members.{member_count}
 

@@ -6,8 +6,8 @@ use Rattle.std.specs.declared.alloc.Global.{Global}
 use Rattle.std.specs.declared.vec.Vec.{Vec}
 use Rattle.std.proofs.lemmas.List.FromFn.{fill_by_all, get_or-map-range_with_len, length-map-range_with_len}
 use Rattle.std.proofs.Math.Seq.{drop-cons, drop-length, get_or-append_seam}
-use Rattle.mc_part.specs.Cuts.{is_part}
-use Rattle.mc_part.specs.Cutting.{AreShared, IsTaken, inner_lists, share_of, shares_of}
+use Rattle.mc_part.specs.Divisions.{is_part}
+use Rattle.mc_part.specs.DividedParts.{AreShared, IsTaken, inner_lists, share_of, shares_of}
 use Rattle.mc_part.proofs.Shares.{read_list, share_more, shares_so_far}
 
 no_start : (k : ℕ) → 0 + k ≡ k

@@ -1,4 +1,4 @@
--- A cut is a layout of its parts.
+-- A division is a layout of its parts.
 use Rattle.std.proofs.Common.{◌≡◌, ◌≢◌, ◌<◌, ◌≤◌, ◌+◌, ◌-◌, ◌*◌, ◌/◌, ◌%◌, ◌==◌, inl, inr, if◌then◌else◌, true, ℕ, zero, suc, Some, List, [], ◌∷◌, length, get_or, replicate, refl, ap, ap₂, sym, ◌∙◌, subst, arith, true≢false, eq-eqb, ne_eqb}
 use Rattle.std.proofs.lemmas.Bool.{cases_eq}
 use Rattle.std.proofs.lemmas.List.{get_or-map, length-map, length-replicate}
@@ -14,8 +14,8 @@ use Rattle.mc_model.specs.Sound.{IsNumbered}
 use Rattle.mc_model.specs.Worlds.{AreChannels, ChannelState, WorldState, box_at, far}
 use Rattle.mc_merge.specs.Account.{PartState}
 use Rattle.mc_merge.specs.Phases.{IsApart, IsLayout, SendsAt, TakesAt, box_in, lane_in, stands_for}
-use Rattle.mc_part.specs.CutLaws.{CutsAreLayouts}
-use Rattle.mc_part.specs.Cuts.{IsCut, channel_in, channels_in, home_at, is_part, lane_at, layout_of, members, part_of, place_in}
+use Rattle.mc_part.specs.DivisionLaws.{DivisionsAreLayouts}
+use Rattle.mc_part.specs.Divisions.{IsDivided, channel_in, channels_in, home_at, is_part, lane_at, layout_of, members, part_of, place_in}
 use Rattle.mc_part.proofs.Members.{home_inside, home_outside, member_at}
 use Rattle.mc_part.proofs.Numbers.{are_whole, box_on}
 use Rattle.mc_part.proofs.Placed.{Touches, end_in, placed_at, touch_on}
@@ -88,7 +88,7 @@ end_away assigned channels c side part channel at touches apart =
     end_there assigned channels part c side channel at touches
     ∙ other_one (is_part part (part_of assigned (end_on side channel))) (home_at assigned (end_on side channel)).1 holder (ne_eqb (part_of assigned (end_on side channel)) part apart)
 
--- ---- parts of a cut
+-- ---- parts of a division
 
 low : (s : ℕ) → s % 2 < 2
 low s = omega arith
@@ -99,13 +99,13 @@ half_in lane n below = omega arith
 lane_in_part : (p n side : ℕ) → p < n → side < 2 → 2 * p + side < 2 * n
 lane_in_part p n side below low = omega arith
 
-lane_count : (world : WorldState) (assigned : List ℕ) (tables : ℕ → WorldState) (states : ℕ → PartState) (part : ℕ) → IsCut world assigned tables states
+lane_count : (world : WorldState) (assigned : List ℕ) (tables : ℕ → WorldState) (states : ℕ → PartState) (part : ℕ) → IsDivided world assigned tables states
     → length (states part).lanes ≡ 2 * length (channels_in assigned world.channels part)
-lane_count world assigned tables states part cut = ap length (cut.lanes part) ∙ length-replicate (2 * length (channels_in assigned world.channels part)) []
+lane_count world assigned tables states part divided = ap length (divided.lanes part) ∙ length-replicate (2 * length (channels_in assigned world.channels part)) []
 
-pub box_count : (world : WorldState) (assigned : List ℕ) (tables : ℕ → WorldState) (states : ℕ → PartState) (part : ℕ) → IsCut world assigned tables states
+pub box_count : (world : WorldState) (assigned : List ℕ) (tables : ℕ → WorldState) (states : ℕ → PartState) (part : ℕ) → IsDivided world assigned tables states
     → length (states part).boxes ≡ length (members assigned part)
-box_count world assigned tables states part cut = ap length (cut.boxes part) ∙ length-map (members assigned part) (box_at world)
+box_count world assigned tables states part divided = ap length (divided.boxes part) ∙ length-map (members assigned part) (box_at world)
 
 -- the channel of a lane is there
 record HasChannel (world : WorldState) (lane : ℕ) : Type 0 where
@@ -124,63 +124,63 @@ has_channel world lane numbered channels inside =
       from_is = from_on (lane % 2) (get_or world.channels (lane / 2) absent_channel) (low lane);
     }
 
-sends_at : (world : WorldState) (assigned : List ℕ) (tables : ℕ → WorldState) (states : ℕ → PartState) (lane : ℕ) → IsNumbered world → AreChannels world.channels → IsCut world assigned tables states
+sends_at : (world : WorldState) (assigned : List ℕ) (tables : ℕ → WorldState) (states : ℕ → PartState) (lane : ℕ) → IsNumbered world → AreChannels world.channels → IsDivided world assigned tables states
     → lane < length world.lanes
     → SendsAt world (layout_of world assigned) tables states lane (part_of assigned (leads_from world lane)) (lane_at assigned world.channels (part_of assigned (leads_from world lane)) lane)
-sends_at world assigned tables states lane numbered channels cut inside =
+sends_at world assigned tables states lane numbered channels divided inside =
     let has : HasChannel world lane = has_channel world lane numbered channels inside in
     let who : ℕ = leads_from world lane in
     let part : ℕ = part_of assigned who in
     let c : ℕ = lane / 2 in
     let at : ℕ = lane_at assigned world.channels part lane in
-    let in_who : who < length assigned = subst (λ (n : ℕ). who < n) (sym cut.each) has.sender in
+    let in_who : who < length assigned = subst (λ (n : ℕ). who < n) (sym divided.each) has.sender in
     let end : IsAtEnd assigned world.channels c (1 - lane % 2) who (get_or world.channels c absent_channel) =
     at_end assigned world.channels c (1 - lane % 2) who (get_or world.channels c absent_channel) has.at has.from_is in
     let leads : leads_from (tables part) at ≡ (home_at assigned who).1 =
-    ap (λ (l : List ChannelState). from_by l at) (cut.channels part) ∙ (from_there (channels_in assigned world.channels part) (place_in assigned world.channels part c) (lane % 2) (low lane) ∙ end.is) in
+    ap (λ (l : List ChannelState). from_by l at) (divided.channels part) ∙ (from_there (channels_in assigned world.channels part) (place_in assigned world.channels part c) (lane % 2) (low lane) ∙ end.is) in
     record {
-      there = subst (λ (n : ℕ). at < n) (sym (lane_count world assigned tables states part cut))
+      there = subst (λ (n : ℕ). at < n) (sym (lane_count world assigned tables states part divided))
           (lane_in_part (place_in assigned world.channels part c) (length (channels_in assigned world.channels part)) (lane % 2) end.inside (low lane));
       here = subst (λ (n : ℕ). n < length (states part).boxes) (sym leads)
-          (subst (λ (n : ℕ). (home_at assigned who).1 < n) (sym (box_count world assigned tables states part cut)) (home_inside assigned who in_who));
+          (subst (λ (n : ℕ). (home_at assigned who).1 < n) (sym (box_count world assigned tables states part divided)) (home_inside assigned who in_who));
       home = ap (λ (n : ℕ). (part, n)) (sym leads);
       tunnels = λ local.
-          ap₂ (λ (l : List ChannelState) (n : ℕ). lanes_by (λ s. far s) l n at local) (cut.channels part) leads
-          ∙ lanes_same (λ s. far s) assigned world.channels part who lane local (get_or world.channels c absent_channel) far_keeps (are_whole world assigned numbered cut.each) in_who refl has.at end.touches;
+          ap₂ (λ (l : List ChannelState) (n : ℕ). lanes_by (λ s. far s) l n at local) (divided.channels part) leads
+          ∙ lanes_same (λ s. far s) assigned world.channels part who lane local (get_or world.channels c absent_channel) far_keeps (are_whole world assigned numbered divided.each) in_who refl has.at end.touches;
     }
 
-takes_at : (world : WorldState) (assigned : List ℕ) (tables : ℕ → WorldState) (states : ℕ → PartState) (lane : ℕ) → IsNumbered world → AreChannels world.channels → IsCut world assigned tables states
+takes_at : (world : WorldState) (assigned : List ℕ) (tables : ℕ → WorldState) (states : ℕ → PartState) (lane : ℕ) → IsNumbered world → AreChannels world.channels → IsDivided world assigned tables states
     → lane < length world.lanes
     → TakesAt world (layout_of world assigned) tables states lane (part_of assigned (leads_to world lane)) (lane_at assigned world.channels (part_of assigned (leads_to world lane)) lane)
-takes_at world assigned tables states lane numbered channels cut inside =
+takes_at world assigned tables states lane numbered channels divided inside =
     let has : HasChannel world lane = has_channel world lane numbered channels inside in
     let who : ℕ = leads_to world lane in
     let part : ℕ = part_of assigned who in
     let c : ℕ = lane / 2 in
     let at : ℕ = lane_at assigned world.channels part lane in
-    let in_who : who < length assigned = subst (λ (n : ℕ). who < n) (sym cut.each) has.taker in
+    let in_who : who < length assigned = subst (λ (n : ℕ). who < n) (sym divided.each) has.taker in
     let end : IsAtEnd assigned world.channels c (lane % 2) who (get_or world.channels c absent_channel) =
     at_end assigned world.channels c (lane % 2) who (get_or world.channels c absent_channel) has.at refl in
     let leads : leads_to (tables part) at ≡ (home_at assigned who).1 =
-    ap (λ (l : List ChannelState). to_by l at) (cut.channels part) ∙ (to_there (channels_in assigned world.channels part) (place_in assigned world.channels part c) (lane % 2) (low lane) ∙ end.is) in
+    ap (λ (l : List ChannelState). to_by l at) (divided.channels part) ∙ (to_there (channels_in assigned world.channels part) (place_in assigned world.channels part c) (lane % 2) (low lane) ∙ end.is) in
     record {
-      there = subst (λ (n : ℕ). at < n) (sym (lane_count world assigned tables states part cut))
+      there = subst (λ (n : ℕ). at < n) (sym (lane_count world assigned tables states part divided))
           (lane_in_part (place_in assigned world.channels part c) (length (channels_in assigned world.channels part)) (lane % 2) end.inside (low lane));
       here = subst (λ (n : ℕ). n < length (states part).boxes) (sym leads)
-          (subst (λ (n : ℕ). (home_at assigned who).1 < n) (sym (box_count world assigned tables states part cut)) (home_inside assigned who in_who));
+          (subst (λ (n : ℕ). (home_at assigned who).1 < n) (sym (box_count world assigned tables states part divided)) (home_inside assigned who in_who));
       home = ap (λ (n : ℕ). (part, n)) (sym leads);
       tunnels = λ local.
-          ap₂ (λ (l : List ChannelState) (n : ℕ). lanes_by (λ s. s) l n at local) (cut.channels part) leads
-          ∙ lanes_same (λ s. s) assigned world.channels part who lane local (get_or world.channels c absent_channel) itself_keeps (are_whole world assigned numbered cut.each) in_who refl has.at end.touches;
+          ap₂ (λ (l : List ChannelState) (n : ℕ). lanes_by (λ s. s) l n at local) (divided.channels part) leads
+          ∙ lanes_same (λ s. s) assigned world.channels part who lane local (get_or world.channels c absent_channel) itself_keeps (are_whole world assigned numbered divided.each) in_who refl has.at end.touches;
     }
 
 past_sum : (n m k : ℕ) → n ≡ m → n ≤ m + k
 past_sum n m k same = omega arith
 
 -- ends in two parts stand each beside a place holder
-is_apart : (world : WorldState) (assigned : List ℕ) (tables : ℕ → WorldState) (states : ℕ → PartState) (lane : ℕ) → IsNumbered world → AreChannels world.channels → IsCut world assigned tables states
+is_apart : (world : WorldState) (assigned : List ℕ) (tables : ℕ → WorldState) (states : ℕ → PartState) (lane : ℕ) → IsNumbered world → AreChannels world.channels → IsDivided world assigned tables states
     → lane < length world.lanes → part_of assigned (leads_from world lane) ≢ part_of assigned (leads_to world lane) → IsApart (layout_of world assigned) tables states lane
-is_apart world assigned tables states lane numbered channels cut inside apart =
+is_apart world assigned tables states lane numbered channels divided inside apart =
     let has : HasChannel world lane = has_channel world lane numbered channels inside in
     let c : ℕ = lane / 2 in
     let channel : ChannelState = get_or world.channels c absent_channel in
@@ -189,36 +189,36 @@ is_apart world assigned tables states lane numbered channels cut inside apart =
     let one : IsAtEnd assigned world.channels c (1 - lane % 2) (leads_from world lane) channel = at_end assigned world.channels c (1 - lane % 2) (leads_from world lane) channel has.at has.from_is in
     let two : IsAtEnd assigned world.channels c (lane % 2) (leads_to world lane) channel = at_end assigned world.channels c (lane % 2) (leads_to world lane) channel has.at refl in
     let away : leads_to (tables from) (lane_at assigned world.channels from lane) ≡ length (members assigned from) + place_in assigned world.channels from c =
-    ap (λ (l : List ChannelState). to_by l (lane_at assigned world.channels from lane)) (cut.channels from)
+    ap (λ (l : List ChannelState). to_by l (lane_at assigned world.channels from lane)) (divided.channels from)
     ∙ (to_there (channels_in assigned world.channels from) (place_in assigned world.channels from c) (lane % 2) (low lane)
     ∙ end_away assigned world.channels c (lane % 2) from channel has.at one.touches (λ same. apart (sym same))) in
     let off : leads_from (tables to) (lane_at assigned world.channels to lane) ≡ length (members assigned to) + place_in assigned world.channels to c =
-    ap (λ (l : List ChannelState). from_by l (lane_at assigned world.channels to lane)) (cut.channels to)
+    ap (λ (l : List ChannelState). from_by l (lane_at assigned world.channels to lane)) (divided.channels to)
     ∙ (from_there (channels_in assigned world.channels to) (place_in assigned world.channels to c) (lane % 2) (low lane)
     ∙ end_away assigned world.channels c (1 - lane % 2) to channel has.at two.touches (λ same. apart (ap (part_of assigned) has.from_is ∙ same))) in
     record {
       away = subst (λ (n : ℕ). length (states from).boxes ≤ n) (sym away)
-          (past_sum (length (states from).boxes) (length (members assigned from)) (place_in assigned world.channels from c) (box_count world assigned tables states from cut));
+          (past_sum (length (states from).boxes) (length (members assigned from)) (place_in assigned world.channels from c) (box_count world assigned tables states from divided));
       off = subst (λ (n : ℕ). length (states to).boxes ≤ n) (sym off)
-          (past_sum (length (states to).boxes) (length (members assigned to)) (place_in assigned world.channels to c) (box_count world assigned tables states to cut));
+          (past_sum (length (states to).boxes) (length (members assigned to)) (place_in assigned world.channels to c) (box_count world assigned tables states to divided));
     }
 
-is_layout : (world : WorldState) (assigned : List ℕ) (tables : ℕ → WorldState) (states : ℕ → PartState) → IsNumbered world → AreChannels world.channels → IsCut world assigned tables states
+is_layout : (world : WorldState) (assigned : List ℕ) (tables : ℕ → WorldState) (states : ℕ → PartState) → IsNumbered world → AreChannels world.channels → IsDivided world assigned tables states
     → IsLayout world (layout_of world assigned) tables states
-is_layout world assigned tables states numbered channels cut = record {
+is_layout world assigned tables states numbered channels divided = record {
   each_lane = numbered.lanes;
   tunnels = λ who inside local.
-      ap (λ (l : List ChannelState). tunnels_of l (home_at assigned who).1 local) (cut.channels (part_of assigned who))
-      ∙ tunnels_same assigned world.channels (part_of assigned who) who local (are_whole world assigned numbered cut.each) (subst (λ (n : ℕ). who < n) (sym cut.each) inside) refl;
+      ap (λ (l : List ChannelState). tunnels_of l (home_at assigned who).1 local) (divided.channels (part_of assigned who))
+      ∙ tunnels_same assigned world.channels (part_of assigned who) who local (are_whole world assigned numbered divided.each) (subst (λ (n : ℕ). who < n) (sym divided.each) inside) refl;
   none = λ who outside.
       let same : length (states (part_of assigned who)).boxes ≡ (home_at assigned who).1 =
-      box_count world assigned tables states (part_of assigned who) cut ∙ home_outside assigned who (subst (λ (n : ℕ). n ≤ who) (sym cut.each) outside) in
+      box_count world assigned tables states (part_of assigned who) divided ∙ home_outside assigned who (subst (λ (n : ℕ). n ≤ who) (sym divided.each) outside) in
       omega arith;
-  sends = λ lane inside. sends_at world assigned tables states lane numbered channels cut inside;
-  takes = λ lane inside. takes_at world assigned tables states lane numbered channels cut inside;
+  sends = λ lane inside. sends_at world assigned tables states lane numbered channels divided inside;
+  takes = λ lane inside. takes_at world assigned tables states lane numbered channels divided inside;
   kinds = λ lane inside. elim (cases_eq (part_of assigned (leads_from world lane)) (part_of assigned (leads_to world lane))) [
     | inl same ↦ inl (ap (λ (part : ℕ). (part, lane_at assigned world.channels part lane)) same)
-    | inr apart ↦ inr (is_apart world assigned tables states lane numbered channels cut inside apart)
+    | inr apart ↦ inr (is_apart world assigned tables states lane numbered channels divided inside apart)
   ];
 }
 
@@ -233,10 +233,10 @@ none_under_way zero i = refl
 none_under_way (suc n) zero = refl
 none_under_way (suc n) (suc i) = none_under_way n i
 
-pub lane_empty : (world : WorldState) (assigned : List ℕ) (tables : ℕ → WorldState) (states : ℕ → PartState) (part at : ℕ) → IsCut world assigned tables states
+pub lane_empty : (world : WorldState) (assigned : List ℕ) (tables : ℕ → WorldState) (states : ℕ → PartState) (part at : ℕ) → IsDivided world assigned tables states
     → get_or (states part).lanes at no_signals ≡ no_signals
-lane_empty world assigned tables states part at cut =
-    ap (λ (l : List (List Tagged)). get_or l at []) (cut.lanes part) ∙ none_under_way (2 * length (channels_in assigned world.channels part)) at
+lane_empty world assigned tables states part at divided =
+    ap (λ (l : List (List Tagged)). get_or l at []) (divided.lanes part) ∙ none_under_way (2 * length (channels_in assigned world.channels part)) at
 
 quiet_at : (lanes : List (List Tagged)) (k : ℕ) → list_all is_empty lanes ≡ true → get_or lanes k no_signals ≡ no_signals
 quiet_at [] k quiet = refl
@@ -245,27 +245,27 @@ quiet_at ((tagged ∷ lane) ∷ lanes) zero quiet = absurd (true≢false (sym qu
 quiet_at ([] ∷ lanes) (suc k) quiet = quiet_at lanes k quiet
 quiet_at ((tagged ∷ lane) ∷ lanes) (suc k) quiet = absurd (true≢false (sym quiet))
 
-box_is : (world : WorldState) (assigned : List ℕ) (tables : ℕ → WorldState) (states : ℕ → PartState) (who : ℕ) → IsCut world assigned tables states → who < length world.boxes
+box_is : (world : WorldState) (assigned : List ℕ) (tables : ℕ → WorldState) (states : ℕ → PartState) (who : ℕ) → IsDivided world assigned tables states → who < length world.boxes
     → box_at world who ≡ box_in (layout_of world assigned) states who
-box_is world assigned tables states who cut inside =
+box_is world assigned tables states who divided inside =
     let part : ℕ = part_of assigned who in
     let at : ℕ = (home_at assigned who).1 in
-    let in_who : who < length assigned = subst (λ (n : ℕ). who < n) (sym cut.each) inside in
-    sym (ap (λ (l : List BoxState). get_or l at no_box) (cut.boxes part)
+    let in_who : who < length assigned = subst (λ (n : ℕ). who < n) (sym divided.each) inside in
+    sym (ap (λ (l : List BoxState). get_or l at no_box) (divided.boxes part)
     ∙ (get_or-map (box_at world) (members assigned part) at 0 no_box (home_inside assigned who in_who)
     ∙ ap (box_at world) (get_or_from_slice_get (members assigned part) at who 0 (member_at assigned part who in_who refl))))
 
-is_whole : (world : WorldState) (assigned : List ℕ) (tables : ℕ → WorldState) (states : ℕ → PartState) → is_quiet world ≡ true → IsCut world assigned tables states
+is_whole : (world : WorldState) (assigned : List ℕ) (tables : ℕ → WorldState) (states : ℕ → PartState) → is_quiet world ≡ true → IsDivided world assigned tables states
     → stands_for world (layout_of world assigned) states ≡ world
-is_whole world assigned tables states quiet cut =
+is_whole world assigned tables states quiet divided =
     ap₂ (λ (boxes : List BoxState) (lanes : List (List Tagged)). record world { boxes = boxes; lanes = lanes })
-    (sym (fill_by_all (box_in (layout_of world assigned) states) world.boxes (length world.boxes) no_box refl (λ who inside. box_is world assigned tables states who cut inside)))
+    (sym (fill_by_all (box_in (layout_of world assigned) states) world.boxes (length world.boxes) no_box refl (λ who inside. box_is world assigned tables states who divided inside)))
     (sym (fill_by_all (lane_in (layout_of world assigned) states) world.lanes (length world.lanes) [] refl
-    (λ lane inside. quiet_at world.lanes lane quiet ∙ sym (lane_empty world assigned tables states (part_of assigned (leads_to world lane)) (lane_at assigned world.channels (part_of assigned (leads_to world lane)) lane) cut))))
+    (λ lane inside. quiet_at world.lanes lane quiet ∙ sym (lane_empty world assigned tables states (part_of assigned (leads_to world lane)) (lane_at assigned world.channels (part_of assigned (leads_to world lane)) lane) divided))))
 
-pub cuts_are_layouts : CutsAreLayouts
-cuts_are_layouts world assigned tables states numbered channels quiet cut = record {
-  laid = is_layout world assigned tables states numbered channels cut;
-  empty = λ lane inside apart. lane_empty world assigned tables states (part_of assigned (leads_from world lane)) (lane_at assigned world.channels (part_of assigned (leads_from world lane)) lane) cut;
-  whole = is_whole world assigned tables states quiet cut;
+pub divisions_are_layouts : DivisionsAreLayouts
+divisions_are_layouts world assigned tables states numbered channels quiet divided = record {
+  laid = is_layout world assigned tables states numbered channels divided;
+  empty = λ lane inside apart. lane_empty world assigned tables states (part_of assigned (leads_from world lane)) (lane_at assigned world.channels (part_of assigned (leads_from world lane)) lane) divided;
+  whole = is_whole world assigned tables states quiet divided;
 }

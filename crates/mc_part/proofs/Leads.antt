@@ -8,8 +8,8 @@ use Rattle.mc_model.specs.Worlds.{AreChannels, ChannelState, HasTunnels, WorldSt
 use Rattle.mc_merge.specs.Account.{PartState}
 use Rattle.mc_merge.specs.Lanes.{HasBothBoxes}
 use Rattle.mc_merge.proofs.LaneBoxes.{lanes_have_boxes}
-use Rattle.mc_part.specs.CutLaws.{ChannelsHaveBoxes, CutsLeadAway}
-use Rattle.mc_part.specs.Cuts.{IsCut, channels_in, is_crossing, home_at, is_inner, is_part, members, part_of, place_in, starts_in, touching}
+use Rattle.mc_part.specs.DivisionLaws.{ChannelsHaveBoxes, DivisionsLeadAway}
+use Rattle.mc_part.specs.Divisions.{IsDivided, channels_in, is_crossing, home_at, is_inner, is_part, members, part_of, place_in, starts_in, touching}
 use Rattle.mc_part.proofs.Layouts.{box_count, end_there, from_by, from_there, to_by, to_there}
 use Rattle.mc_part.proofs.Placed.{IsPlaced, IsTouching, channel_count, front_at, placed_back, touching_back, tunnel_count}
 use Rattle.mc_part.proofs.Ranks.{rank_back}
@@ -81,11 +81,11 @@ lane_to channels k holder false is = to_there channels k 0 (omega arith) ∙ is
 past_sum : (n m k : ℕ) → n ≡ m → n ≤ m + k
 past_sum n m k same = omega arith
 
-pub leads_out : (world : WorldState) (assigned : List ℕ) (tables : ℕ → WorldState) (states : ℕ → PartState) (part c : ℕ) → IsCut world assigned tables states
+pub leads_out : (world : WorldState) (assigned : List ℕ) (tables : ℕ → WorldState) (states : ℕ → PartState) (part c : ℕ) → IsDivided world assigned tables states
     → c < length (starts_in assigned world.channels part)
     → (length (states part).boxes ≤ leads_from (tables part) (2 * c + (if get_or (starts_in assigned world.channels part) c true then 0 else 1)))
     × (length (states part).boxes ≤ leads_to (tables part) (2 * c + (if get_or (starts_in assigned world.channels part) c true then 1 else 0)))
-leads_out world assigned tables states part c cut below =
+leads_out world assigned tables states part c divided below =
     let inside : c < length (filter (is_crossing assigned part) world.channels) =
     subst (λ (n : ℕ). c < n) (length-map (filter (is_crossing assigned part) world.channels) (λ (channel : ChannelState). is_part part (part_of assigned channel.from))) below in
     let crossing : IsCrossing assigned world.channels part c = crossing_at assigned world.channels part c inside in
@@ -94,12 +94,12 @@ leads_out world assigned tables states part c cut below =
     sym (get_or-map (λ (channel : ChannelState). is_part part (part_of assigned channel.from)) (filter (is_crossing assigned part) world.channels) c crossing.channel true inside
     ∙ ap (λ (channel : ChannelState). is_part part (part_of assigned channel.from)) (get_or_from_slice_get (filter (is_crossing assigned part) world.channels) c crossing.channel crossing.channel crossing.is)) in
     let far = far_end assigned world.channels part c crossing starts is in
-    let count : length (states part).boxes ≤ length (members assigned part) + c = past_sum (length (states part).boxes) (length (members assigned part)) c (box_count world assigned tables states part cut) in (
+    let count : length (states part).boxes ≤ length (members assigned part) + c = past_sum (length (states part).boxes) (length (members assigned part)) c (box_count world assigned tables states part divided) in (
       subst (λ (n : ℕ). length (states part).boxes ≤ n)
-          (sym (ap (λ (l : List ChannelState). from_by l (2 * c + (if starts then 0 else 1))) (cut.channels part)
+          (sym (ap (λ (l : List ChannelState). from_by l (2 * c + (if starts then 0 else 1))) (divided.channels part)
           ∙ lane_from (channels_in assigned world.channels part) c (length (members assigned part) + c) starts far)) count,
       subst (λ (n : ℕ). length (states part).boxes ≤ n)
-          (sym (ap (λ (l : List ChannelState). to_by l (2 * c + (if starts then 1 else 0))) (cut.channels part)
+          (sym (ap (λ (l : List ChannelState). to_by l (2 * c + (if starts then 1 else 0))) (divided.channels part)
           ∙ lane_to (channels_in assigned world.channels part) c (length (members assigned part) + c) starts far)) count,
     )
 
@@ -155,10 +155,10 @@ are_channels assigned channels part are = record {
       record { some = both.0; few = both.1 };
 }
 
-pub cuts_lead_away : CutsLeadAway
-cuts_lead_away world assigned tables states are cut part = record {
-  away = λ c below. leads_out world assigned tables states part c cut below;
-  channels = subst AreChannels (sym (cut.channels part)) (are_channels assigned world.channels part are);
+pub divisions_lead_away : DivisionsLeadAway
+divisions_lead_away world assigned tables states are divided part = record {
+  away = λ c below. leads_out world assigned tables states part c divided below;
+  channels = subst AreChannels (sym (divided.channels part)) (are_channels assigned world.channels part are);
 }
 
 -- ---- each channel joins two boxes

@@ -4,11 +4,11 @@ use Rattle.std.proofs.lemmas.List.FromFn.{get_or-map-range_with_len}
 use Rattle.std.proofs.lemmas.Option.{get_or_from_slice_get, none-some, same_Some, slice_get-get_or, slice_get_within}
 use Rattle.std.specs.List.{AllByRecursion, slice_get}
 use Rattle.mc_merge.specs.Wholes.{numbers_in}
-use Rattle.mc_part.specs.CutLaws.{CutsAreHomes, FirstPartsAreCut}
-use Rattle.mc_part.specs.Cuts.{home_at, is_part, members, members_from, part_numbers, part_of, rank}
+use Rattle.mc_part.specs.DivisionLaws.{DivisionsAreHomes, FirstPartsAreDivided}
+use Rattle.mc_part.specs.Divisions.{home_at, is_part, members, members_from, part_numbers, part_of, rank}
 
-pub first_parts_are_cut : FirstPartsAreCut
-first_parts_are_cut world assigned each = record { each = each; channels = λ part. refl; boxes = λ part. refl; lanes = λ part. refl }
+pub first_parts_are_divided : FirstPartsAreDivided
+first_parts_are_divided world assigned each = record { each = each; channels = λ part. refl; boxes = λ part. refl; lanes = λ part. refl }
 
 -- ---- a box among those of its part
 
@@ -150,8 +150,8 @@ member_number assigned count part at all inside =
     let below : part < count = subst (λ (n : ℕ). n < count) member.part_is (part_below assigned count (get_or (members assigned part) at 0) all member.inside) in
     subst (λ (n : ℕ). IsMember assigned part at n) (sym (number_is assigned count part at below)) member
 
-pub cuts_are_homes : CutsAreHomes
-cuts_are_homes assigned count parts all boxes known = record {
+pub divisions_are_homes : DivisionsAreHomes
+divisions_are_homes assigned count parts all boxes known = record {
   back = λ who inside.
       number_is assigned count (part_of assigned who) (home_at assigned who).1 (part_below assigned count who all inside)
       ∙ get_or_from_slice_get (members assigned (part_of assigned who)) (home_at assigned who).1 who 0 (member_at assigned (part_of assigned who) who inside refl);

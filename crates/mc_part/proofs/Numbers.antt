@@ -8,7 +8,7 @@ use Rattle.mc_laws.proofs.TunnelPlaces.{places_apart, two_each}
 use Rattle.mc_model.specs.Sound.{IsNumbered}
 use Rattle.mc_model.specs.Worlds.{ChannelState, WorldState, is_place, no_tunnel, place, places, places_among, tunnels_from}
 use Rattle.mc_model.specs.declared.channel.Tunnel.{Tunnel}
-use Rattle.mc_part.specs.Cuts.{channel_in, channels_in, home_at, is_part, members, part_of, place_in}
+use Rattle.mc_part.specs.Divisions.{channel_in, channels_in, home_at, is_part, members, part_of, place_in}
 use Rattle.mc_part.proofs.Placed.{HasTunnel, IsPlaced, Touches, end_in, has_tunnel, placed_at, placed_back, tunnel_count}
 use Rattle.mc_part.proofs.Slots.{Standing, StandsOn, end_on, slot_on, standing, stands_on}
 

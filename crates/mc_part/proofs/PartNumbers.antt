@@ -12,8 +12,8 @@ use Rattle.mc_model.specs.Sound.{IsNumbered}
 use Rattle.mc_model.specs.Worlds.{AreChannels, ChannelState, WorldState, box_at, is_place, places_among}
 use Rattle.mc_model.specs.declared.channel.Tunnel.{Tunnel}
 use Rattle.mc_merge.specs.Account.{PartState, part_box}
-use Rattle.mc_part.specs.CutLaws.{AreFull, CutsHaveNumbers, homes_in, slots_at}
-use Rattle.mc_part.specs.Cuts.{IsCut, channels_in, is_crossing, home_at, is_part, members, part_of, place_in, rank, touching}
+use Rattle.mc_part.specs.DivisionLaws.{AreFull, DivisionsHaveNumbers, homes_in, slots_at}
+use Rattle.mc_part.specs.Divisions.{IsDivided, channels_in, is_crossing, home_at, is_part, members, part_of, place_in, rank, touching}
 use Rattle.mc_part.proofs.Layouts.{box_count}
 use Rattle.mc_part.proofs.Leads.{IsCrossing, far_is_away, far_side_of, crossing_at, tunnels_of_channel}
 use Rattle.mc_part.proofs.Members.{IsMember, home_inside, member_at, member_here}
@@ -219,17 +219,17 @@ full_there world assigned part numbered are few each = record {
   few = λ at below. few_slots world assigned part at are each few below;
 }
 
-box_slots : (world : WorldState) (assigned : List ℕ) (tables : ℕ → WorldState) (states : ℕ → PartState) (part at : ℕ) → IsCut world assigned tables states → at < length (states part).boxes
+box_slots : (world : WorldState) (assigned : List ℕ) (tables : ℕ → WorldState) (states : ℕ → PartState) (part at : ℕ) → IsDivided world assigned tables states → at < length (states part).boxes
     → length (part_box (states part) at).slots ≡ slots_at world assigned part at
-box_slots world assigned tables states part at cut below =
-    let inside : at < length (members assigned part) = subst (λ (n : ℕ). at < n) (box_count world assigned tables states part cut) below in
-    ap (λ (l : List BoxState). length (get_or l at no_box).slots) (cut.boxes part)
+box_slots world assigned tables states part at divided below =
+    let inside : at < length (members assigned part) = subst (λ (n : ℕ). at < n) (box_count world assigned tables states part divided) below in
+    ap (λ (l : List BoxState). length (get_or l at no_box).slots) (divided.boxes part)
     ∙ (ap (λ (box : BoxState). length box.slots) (get_or-map (box_at world) (members assigned part) at 0 no_box inside)
     ∙ sym (slots_here world assigned part at inside))
 
-pub cuts_have_numbers : CutsHaveNumbers
-cuts_have_numbers world assigned tables states numbered are few cut part = record {
-  full = subst (λ (l : List ChannelState). AreFull (places_among l) (homes_in world assigned part) (slots_at world assigned part)) (sym (cut.channels part))
-      (full_there world assigned part numbered are few cut.each);
-  boxes = λ at below. box_slots world assigned tables states part at cut below;
+pub divisions_have_numbers : DivisionsHaveNumbers
+divisions_have_numbers world assigned tables states numbered are few divided part = record {
+  full = subst (λ (l : List ChannelState). AreFull (places_among l) (homes_in world assigned part) (slots_at world assigned part)) (sym (divided.channels part))
+      (full_there world assigned part numbered are few divided.each);
+  boxes = λ at below. box_slots world assigned tables states part at divided below;
 }

@@ -5,7 +5,7 @@ use Rattle.std.specs.List.{slice_get}
 use Rattle.mc_merge.specs.Lanes.{absent_channel}
 use Rattle.mc_model.specs.Worlds.{ChannelState}
 use Rattle.mc_model.specs.declared.channel.Tunnel.{Tunnel}
-use Rattle.mc_part.specs.Cuts.{channel_in, channels_from, channels_in, is_crossing, home_at, is_inner, is_part, members, part_of, place_in, rank, touching, tunnel_in, tunnels_in}
+use Rattle.mc_part.specs.Divisions.{channel_in, channels_from, channels_in, is_crossing, home_at, is_inner, is_part, members, part_of, place_in, rank, touching, tunnel_in, tunnels_in}
 use Rattle.mc_part.proofs.Ranks.{Found, rank_apart, rank_back, rank_found}
 use Rattle.mc_part.proofs.Slots.{end_on, slot_on}
 

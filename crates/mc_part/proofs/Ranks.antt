@@ -2,7 +2,7 @@
 use Rattle.std.proofs.Common.{◌≡◌, ◌<◌, Bool, true, false, cond, filter, ℕ, zero, suc, Some, List, [], ◌∷◌, length, take, refl, ap, sym, ◌∙◌, arith, true≢false}
 use Rattle.std.proofs.lemmas.Option.{none-some, same_Some}
 use Rattle.std.specs.List.{slice_get}
-use Rattle.mc_part.specs.Cuts.{rank}
+use Rattle.mc_part.specs.Divisions.{rank}
 
 -- ---- one that passes is found at its rank
 

@@ -4,7 +4,7 @@ use Rattle.std.proofs.lemmas.Option.{none-some, same_Some}
 use Rattle.std.specs.List.{slice_get}
 use Rattle.mc_model.specs.Worlds.{ChannelState, is_place, no_tunnel, places_among, tunnels_from}
 use Rattle.mc_model.specs.declared.channel.Tunnel.{Tunnel}
-use Rattle.mc_part.specs.Cuts.{channels_in, home_at, is_part, members, part_of, place_in}
+use Rattle.mc_part.specs.Divisions.{channels_in, home_at, is_part, members, part_of, place_in}
 use Rattle.mc_part.proofs.Members.{home_apart, home_inside}
 use Rattle.mc_part.proofs.Numbers.{AreWhole, HasSlot, IsHere, box_on, end_inside, found_place, has_slot, is_here, local_on, one_slot, position_is, same_place, side_low, slot_placed, world_number}
 use Rattle.mc_part.proofs.Placed.{Touches, place_apart, touch_on}

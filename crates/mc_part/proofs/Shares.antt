@@ -8,9 +8,9 @@ use Rattle.std.specs.declared.alloc.Global.{Global}
 use Rattle.std.specs.declared.vec.Vec.{Vec}
 use Rattle.mc_box.specs.Boxes.{no_box}
 use Rattle.mc_model.specs.Worlds.{WorldState, box_at}
-use Rattle.mc_part.specs.CutLaws.{SharesAreBoxes}
-use Rattle.mc_part.specs.Cuts.{boxes_in, is_part, members, members_from}
-use Rattle.mc_part.specs.Cutting.{inner_lists, share_of}
+use Rattle.mc_part.specs.DivisionLaws.{SharesAreBoxes}
+use Rattle.mc_part.specs.Divisions.{boxes_in, is_part, members, members_from}
+use Rattle.mc_part.specs.DividedParts.{inner_lists, share_of}
 
 -- ---- the boxes of a part
 

@@ -4,7 +4,7 @@ use Rattle.std.specs.List.{slice_get}
 use Rattle.mc_laws.proofs.Numbers.{far_half, far_side}
 use Rattle.mc_port.specs.Tunnels.{tunnel_if_at}
 use Rattle.mc_model.specs.Worlds.{ChannelState, TunnelPlace, far, is_place, no_tunnel, places_among, tunnels_from}
-use Rattle.mc_part.specs.Cuts.{channels_in, home_at, part_of, place_in}
+use Rattle.mc_part.specs.Divisions.{channels_in, home_at, part_of, place_in}
 use Rattle.mc_part.proofs.Numbers.{AreWhole}
 use Rattle.mc_part.proofs.Placed.{Touches, place_apart}
 use Rattle.mc_part.proofs.Same.{either, same_slots}

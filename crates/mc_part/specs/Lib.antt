@@ -1,7 +1,7 @@
 pub mod Carrying
-pub mod CutLaws
-pub mod Cuts
-pub mod Cutting
+pub mod DivisionLaws
+pub mod Divisions
+pub mod DividedParts
 pub mod Drains
 pub mod Knowing
 pub mod Networks

@@ -1,8 +1,8 @@
 // The channels of a part.
 
 ghost use Rattle.std.specs.Prelude.{◌≡◌, ◌≤◌, ◌<◌, if◌then◌else◌, length, All, IfOk, OnOk};
-ghost use Rattle.mc_part.specs.Cuts.{channel_in, channels_in, home_at, is_part, members, part_of, tunnel_in, tunnels_in};
-ghost use Rattle.mc_part.specs.Cutting.{AreNumbersIn, HasBoxes, with_crossing, with_inner};
+ghost use Rattle.mc_part.specs.Divisions.{channel_in, channels_in, home_at, is_part, members, part_of, tunnel_in, tunnels_in};
+ghost use Rattle.mc_part.specs.DividedParts.{AreNumbersIn, HasBoxes, with_crossing, with_inner};
 ghost use Rattle.mc_model.specs.Worlds.{AreChannels, HasTunnels, channel_number_limit};
 ghost use Rattle.mc_model.specs.declared.channel.TheConstants.{TUNNEL_LIMIT};
 

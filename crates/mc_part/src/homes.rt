@@ -1,7 +1,7 @@
 // Where boxes stand.
 
 ghost use Rattle.std.specs.Prelude.{◌≡◌, ◌<◌, ◌^◌, length, replicate, All, IfOk};
-ghost use Rattle.mc_part.specs.Cutting.{AreNumbersIn, counts_of};
+ghost use Rattle.mc_part.specs.DividedParts.{AreNumbersIn, counts_of};
 
 use std::alloc::{AllocError, Global};
 

@@ -1,12 +1,12 @@
-//! Laws of cuts and of parts, over the definitions alone: each function's contract is the law's sentence.
+//! Laws of divisions and of parts, over the definitions alone: each function's contract is the law's sentence.
 
 ghost use Rattle.mc_part.specs.Carrying.{LeftFitsChannel, WorkFitsChannels};
 ghost use Rattle.mc_part.specs.Drains.{DrainsMeet, RingsAreDrained};
 ghost use Rattle.mc_part.specs.Networks.{PartsGoOn, PartsKeepSound, PartsPlay};
 ghost use Rattle.mc_part.specs.Running.{NextIsFirst};
 ghost use Rattle.mc_part.specs.Spans.{NothingIsSpan, SpansJoin};
-ghost use Rattle.mc_part.specs.CutLaws.{ChannelsHaveBoxes, CutsAreHomes, CutsAreLayouts, CutsHaveNumbers, CutsLeadAway};
-ghost use Rattle.mc_part.specs.CutLaws.{FirstPartsAreCut, NonePastParts, SharesAreBoxes};
+ghost use Rattle.mc_part.specs.DivisionLaws.{ChannelsHaveBoxes, DivisionsAreHomes, DivisionsAreLayouts, DivisionsHaveNumbers, DivisionsLeadAway};
+ghost use Rattle.mc_part.specs.DivisionLaws.{FirstPartsAreDivided, NonePastParts, SharesAreBoxes};
 
 /// Where a ring was drained before, what it gave since then, and what is left in it, is what was put into it since.
 pub fn drains_meet()
@@ -62,9 +62,9 @@ pub fn left_fits_channel()
     ensures { LeftFitsChannel }
 {}
 
-/// Parts as they are defined are a cut.
-pub fn first_parts_are_cut()
-    ensures { FirstPartsAreCut }
+/// Parts as they are defined divide a network.
+pub fn first_parts_are_divided()
+    ensures { FirstPartsAreDivided }
 {}
 
 /// What `share` gives of the boxes of a network are the boxes of its parts, and what it gives of their numbers in order
@@ -80,8 +80,8 @@ pub fn channels_have_boxes()
 
 /// Whatever box is assigned to whatever part, each box and each lane of the world stands in the parts, and they stand
 /// for the world.
-pub fn cuts_are_layouts()
-    ensures { CutsAreLayouts }
+pub fn divisions_are_layouts()
+    ensures { DivisionsAreLayouts }
 {}
 
 /// Past the last part there are no boxes and no channels.
@@ -90,16 +90,16 @@ pub fn none_past_parts()
 {}
 
 /// The boxes of parts are those of the world, each once.
-pub fn cuts_are_homes()
-    ensures { CutsAreHomes }
+pub fn divisions_are_homes()
+    ensures { DivisionsAreHomes }
 {}
 
 /// At the far end of each channel that crosses stands a place holder, and no part has too many channels or tunnels.
-pub fn cuts_lead_away()
-    ensures { CutsLeadAway }
+pub fn divisions_lead_away()
+    ensures { DivisionsLeadAway }
 {}
 
 /// In a part each slot of each box has one number, and so has each of each place holder.
-pub fn cuts_have_numbers()
-    ensures { CutsHaveNumbers }
+pub fn divisions_have_numbers()
+    ensures { DivisionsHaveNumbers }
 {}

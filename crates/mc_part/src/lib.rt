@@ -1,4 +1,4 @@
-//! Parts of a network: what each is made of, wherever the network is cut, and how they run, each by itself and side by
+//! Parts of a network: what each is made of, wherever the network is divided, and how they run, each by itself and side by
 //! side on threads.
 #![tactic(auto)]
 

@@ -1,7 +1,7 @@
 // Things by part.
 
 ghost use Rattle.std.specs.Prelude.{◌≡◌, ◌<◌, [], List, length, replicate, slice_index_or, All, IfOk, OnOk};
-ghost use Rattle.mc_part.specs.Cutting.{AreShared, HasShares, IsTaken, inner_lists, shares_of, with_given};
+ghost use Rattle.mc_part.specs.DividedParts.{AreShared, HasShares, IsTaken, inner_lists, shares_of, with_given};
 
 use std::alloc::{AllocError, Global};
 use std::collections::VecDeque;

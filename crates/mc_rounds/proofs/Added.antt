@@ -13,7 +13,7 @@ use Rattle.mc_model.specs.Settles.{commands_of}
 use Rattle.mc_model.specs.Shapes.{AreAllowed, is_allowed}
 use Rattle.mc_model.specs.Sound.{IsSound}
 use Rattle.mc_model.specs.Worlds.{WorldState}
-use Rattle.mc_network.specs.States.{NetworkState, new_state, with_command}
+use Rattle.mc_divided.specs.States.{NetworkState, new_state, with_command}
 use Rattle.mc_rounds.specs.Settling.{HasBatch}
 
 -- these commands are left in a world, and no Shift was made

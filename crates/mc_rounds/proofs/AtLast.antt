@@ -9,7 +9,7 @@ use Rattle.mc_box.specs.declared.event.Turn.{Turn}
 use Rattle.mc_model.specs.Settles.{commands_of}
 use Rattle.mc_model.specs.Sound.{IsSound}
 use Rattle.mc_model.specs.Worlds.{WorldState, number}
-use Rattle.mc_network.specs.States.{IsAtLast, NetworkState}
+use Rattle.mc_divided.specs.States.{IsAtLast, NetworkState}
 use Rattle.mc_seq.proofs.Hears.{hears_somewhere}
 use Rattle.mc_seq.specs.declared.stopping.SettleStop.TheVariants as stops
 use Rattle.mc_rounds.proofs.Retried.{limit_played, ran_on}

@@ -8,8 +8,8 @@ use Rattle.mc_model.specs.Settles.{IsSettled, IsStopped}
 use Rattle.mc_model.specs.Sound.{IsSound}
 use Rattle.mc_model.specs.Steps.{run}
 use Rattle.mc_model.specs.Worlds.{ChannelState, WorldState, place, places_among}
-use Rattle.mc_network.specs.Networks.{IsCutNetwork, network_state}
-use Rattle.mc_network.specs.declared.network.CutNetwork.{CutNetwork}
+use Rattle.mc_divided.specs.Networks.{IsDividedNetwork, network_state}
+use Rattle.mc_divided.specs.declared.network.DividedNetwork.{DividedNetwork}
 use Rattle.mc_seq.specs.Places.{IsPlaced}
 use Rattle.mc_seq.specs.ShiftLimit.{KeepsShiftLimit}
 use Rattle.mc_seq.specs.declared.fault.SettleFault.{SettleFault}
@@ -23,10 +23,10 @@ use Rattle.mc_rounds.specs.Settling.{EndsSettle, SettlesInLimit}
 use Rattle.mc_rounds.specs.Stops.{Stops, StopsAtLast, StopsOnRing, StopsUnrested}
 
 -- a settle from this world ended so, in this network
-pub record EndsAs (world : WorldState) (batch : List Turn) (network : CutNetwork) (turns : Vec Turn Global)
+pub record EndsAs (world : WorldState) (batch : List Turn) (network : DividedNetwork) (turns : Vec Turn Global)
     (ending : Option SettleStop) : Type 0 where
   pub sound : IsSound world
-  pub cut : IsCutNetwork network
+  pub divided : IsDividedNetwork network
   pub ended : EndsSettle world batch turns.items (network_state network).world ending
 
 -- a run leaves the place of each slot
@@ -45,22 +45,22 @@ told_place world last batch turns at stop sound stopped tells =
 -- ---- the answers
 
 -- what is answered of a settled batch
-pub record Settles (world : WorldState) (batch : List Turn) (done : CutNetwork × Vec Turn Global) : Type 0 where
-  pub cut : IsCutNetwork done.0
+pub record Settles (world : WorldState) (batch : List Turn) (done : DividedNetwork × Vec Turn Global) : Type 0 where
+  pub divided : IsDividedNetwork done.0
   pub settles : SettlesInLimit world batch done.1.items (network_state done.0).world
 
 -- at rest the batch is settled, within the limit of Shifts
-answers_rest : (ending : Option SettleStop) (world : WorldState) (batch : List Turn) (network : CutNetwork)
-    (turns : Vec Turn Global) (done : CutNetwork × Vec Turn Global) → EndsAs world batch network turns ending
+answers_rest : (ending : Option SettleStop) (world : WorldState) (batch : List Turn) (network : DividedNetwork)
+    (turns : Vec Turn Global) (done : DividedNetwork × Vec Turn Global) → EndsAs world batch network turns ending
     → Answered network turns ending (Ok done) → Settles world batch done
 answers_rest None world batch network turns done ends answered =
-    subst (Settles world batch) (sym answered) (record { cut = ends.cut; settles = ends.ended })
+    subst (Settles world batch) (sym answered) (record { divided = ends.divided; settles = ends.ended })
 answers_rest (Some (stops.Ring at)) world batch network turns done ends answered = absurd answered
 answers_rest (Some (stops.Restless at)) world batch network turns done ends answered = absurd answered
 answers_rest (Some (stops.VersionEnd at)) world batch network turns done ends answered = absurd answered
 
 -- at a ring the first slot on one is told
-answers_ring : (ending : Option SettleStop) (world : WorldState) (batch : List Turn) (network : CutNetwork)
+answers_ring : (ending : Option SettleStop) (world : WorldState) (batch : List Turn) (network : DividedNetwork)
     (turns : Vec Turn Global) (stop : Stopped) → EndsAs world batch network turns ending
     → Answered network turns ending (Err (Ring stop)) → Stops world batch (Ring stop)
 answers_ring None world batch network turns stop ends answered = absurd answered
@@ -80,7 +80,7 @@ answers_ring (Some (stops.Restless at)) world batch network turns stop ends answ
 answers_ring (Some (stops.VersionEnd at)) world batch network turns stop ends answered = absurd answered
 
 -- where a box never came to rest that box is told
-answers_restless : (ending : Option SettleStop) (world : WorldState) (batch : List Turn) (network : CutNetwork)
+answers_restless : (ending : Option SettleStop) (world : WorldState) (batch : List Turn) (network : DividedNetwork)
     (turns : Vec Turn Global) (stop : StoppedBox) → EndsAs world batch network turns ending
     → Answered network turns ending (Err (Restless stop)) → Stops world batch (Restless stop)
 answers_restless None world batch network turns stop ends answered = absurd answered
@@ -98,7 +98,7 @@ answers_restless (Some (stops.Restless at)) world batch network turns stop ends 
 answers_restless (Some (stops.VersionEnd at)) world batch network turns stop ends answered = absurd answered
 
 -- at a last version the slot whose Hear is next is told
-answers_version : (ending : Option SettleStop) (world : WorldState) (batch : List Turn) (network : CutNetwork)
+answers_version : (ending : Option SettleStop) (world : WorldState) (batch : List Turn) (network : DividedNetwork)
     (turns : Vec Turn Global) (stop : Stopped) → EndsAs world batch network turns ending
     → Answered network turns ending (Err (VersionEnd stop)) → Stops world batch (VersionEnd stop)
 answers_version None world batch network turns stop ends answered = absurd answered
@@ -117,7 +117,7 @@ answers_version (Some (stops.VersionEnd at)) world batch network turns stop ends
 )
 
 -- so each fault tells its cause
-answers_fault : (fault : SettleFault) (ending : Option SettleStop) (world : WorldState) (batch : List Turn) (network : CutNetwork)
+answers_fault : (fault : SettleFault) (ending : Option SettleStop) (world : WorldState) (batch : List Turn) (network : DividedNetwork)
     (turns : Vec Turn Global) → EndsAs world batch network turns ending
     → Answered network turns ending (Err fault) → Stops world batch fault
 answers_fault (Ring stop) ending world batch network turns ends answered =
@@ -129,16 +129,16 @@ answers_fault (VersionEnd stop) ending world batch network turns ends answered =
 answers_fault (NoMemory e) ending world batch network turns ends answered = tt
 
 -- at rest it is settled
-answers_settled : (result : Result (CutNetwork × Vec Turn Global) SettleFault) (ending : Option SettleStop) (world : WorldState)
-    (batch : List Turn) (network : CutNetwork) (turns : Vec Turn Global) → EndsAs world batch network turns ending
+answers_settled : (result : Result (DividedNetwork × Vec Turn Global) SettleFault) (ending : Option SettleStop) (world : WorldState)
+    (batch : List Turn) (network : DividedNetwork) (turns : Vec Turn Global) → EndsAs world batch network turns ending
     → Answered network turns ending result → IfOk result (Settles world batch)
 answers_settled (Ok done) ending world batch network turns ends answered =
     answers_rest ending world batch network turns done ends answered
 answers_settled (Err fault) ending world batch network turns ends answered = tt
 
 -- and else its cause is told
-pub answers_stops : (result : Result (CutNetwork × Vec Turn Global) SettleFault) (ending : Option SettleStop) (world : WorldState)
-    (batch : List Turn) (network : CutNetwork) (turns : Vec Turn Global) → EndsAs world batch network turns ending
+pub answers_stops : (result : Result (DividedNetwork × Vec Turn Global) SettleFault) (ending : Option SettleStop) (world : WorldState)
+    (batch : List Turn) (network : DividedNetwork) (turns : Vec Turn Global) → EndsAs world batch network turns ending
     → Answered network turns ending result → IfErr result (Stops world batch)
 answers_stops (Ok done) ending world batch network turns ends answered = tt
 answers_stops (Err fault) ending world batch network turns ends answered =
@@ -152,15 +152,15 @@ settles_parts : {A : Type 0} (P : A → Type 0) (Q : A → Type 0) (result : Res
 settles_parts P Q (Ok done) gives settles = gives done settles
 settles_parts P Q (Err fault) gives settles = tt
 
-pub answers_cut : (result : Result (CutNetwork × Vec Turn Global) SettleFault) (ending : Option SettleStop) (world : WorldState)
-    (batch : List Turn) (network : CutNetwork) (turns : Vec Turn Global) → EndsAs world batch network turns ending
-    → Answered network turns ending result → IfOk result (λ done. IsCutNetwork done.0)
-answers_cut result ending world batch network turns ends answered =
-    settles_parts (Settles world batch) (λ done. IsCutNetwork done.0) result (λ done settles. settles.cut)
+pub answers_divided : (result : Result (DividedNetwork × Vec Turn Global) SettleFault) (ending : Option SettleStop) (world : WorldState)
+    (batch : List Turn) (network : DividedNetwork) (turns : Vec Turn Global) → EndsAs world batch network turns ending
+    → Answered network turns ending result → IfOk result (λ done. IsDividedNetwork done.0)
+answers_divided result ending world batch network turns ends answered =
+    settles_parts (Settles world batch) (λ done. IsDividedNetwork done.0) result (λ done settles. settles.divided)
     (answers_settled result ending world batch network turns ends answered)
 
-pub answers_done : (result : Result (CutNetwork × Vec Turn Global) SettleFault) (ending : Option SettleStop) (world : WorldState)
-    (batch : List Turn) (network : CutNetwork) (turns : Vec Turn Global) → EndsAs world batch network turns ending
+pub answers_done : (result : Result (DividedNetwork × Vec Turn Global) SettleFault) (ending : Option SettleStop) (world : WorldState)
+    (batch : List Turn) (network : DividedNetwork) (turns : Vec Turn Global) → EndsAs world batch network turns ending
     → Answered network turns ending result
     → IfOk result (λ done. IsSettled world batch done.1.items (network_state done.0).world)
 answers_done result ending world batch network turns ends answered =
@@ -168,8 +168,8 @@ answers_done result ending world batch network turns ends answered =
     (λ done settles. settles.settles.settled)
     (answers_settled result ending world batch network turns ends answered)
 
-pub answers_limit : (result : Result (CutNetwork × Vec Turn Global) SettleFault) (ending : Option SettleStop) (world : WorldState)
-    (batch : List Turn) (network : CutNetwork) (turns : Vec Turn Global) → EndsAs world batch network turns ending
+pub answers_limit : (result : Result (DividedNetwork × Vec Turn Global) SettleFault) (ending : Option SettleStop) (world : WorldState)
+    (batch : List Turn) (network : DividedNetwork) (turns : Vec Turn Global) → EndsAs world batch network turns ending
     → Answered network turns ending result → IfOk result (λ done. KeepsShiftLimit done.1.items)
 answers_limit result ending world batch network turns ends answered =
     settles_parts (Settles world batch) (λ done. KeepsShiftLimit done.1.items) result

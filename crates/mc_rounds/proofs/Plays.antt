@@ -12,9 +12,9 @@ use Rattle.mc_laws.proofs.ShapesKept.{run_keeps_shape}
 use Rattle.mc_laws.proofs.Sums.{total_le}
 use Rattle.mc_model.specs.Settles.{commands_of, is_shift_of}
 use Rattle.mc_model.specs.Sound.{IsSound}
-use Rattle.mc_network.specs.Networks.{IsCutNetwork, network_state, shifts_among}
-use Rattle.mc_network.specs.States.{IsPhaseTo, NetworkState, NoneLeft, PlaysOn}
-use Rattle.mc_network.specs.declared.network.CutNetwork.{CutNetwork}
+use Rattle.mc_divided.specs.Networks.{IsDividedNetwork, network_state, shifts_among}
+use Rattle.mc_divided.specs.States.{IsPhaseTo, NetworkState, NoneLeft, PlaysOn}
+use Rattle.mc_divided.specs.declared.network.DividedNetwork.{DividedNetwork}
 use Rattle.mc_part.specs.Parts.{IsWithin}
 use Rattle.mc_part.specs.Phases.{EachOf}
 use Rattle.mc_part.specs.declared.part_run.PartRun.{PartRun}
@@ -106,7 +106,7 @@ plays_from old new before after played none =
 -- ---- a network
 
 -- its counts of Shifts are within the limit
-pub few_shifts_of : (network : CutNetwork) → IsCutNetwork network → FewShifts (network_state network)
+pub few_shifts_of : (network : DividedNetwork) → IsDividedNetwork network → FewShifts (network_state network)
 few_shifts_of network is who = few_among network.runs.items _ _ (λ k run at. (is.idle k run at).within)
   where
     few_among : (runs : List PartRun) (part local : ℕ) → EachOf (λ (run : PartRun). IsWithin run.part) runs

@@ -9,9 +9,9 @@ use Rattle.mc_model.specs.Paths.{has_ring, other_end}
 use Rattle.mc_model.specs.Rings.{IsLeastOnRing}
 use Rattle.mc_model.specs.Sound.{IsSound}
 use Rattle.mc_model.specs.Worlds.{WorldState}
-use Rattle.mc_network.specs.Networks.{IsCutNetwork, network_state}
-use Rattle.mc_network.specs.States.{NetworkState, NoneLeft}
-use Rattle.mc_network.specs.declared.network.CutNetwork.{CutNetwork}
+use Rattle.mc_divided.specs.Networks.{IsDividedNetwork, network_state}
+use Rattle.mc_divided.specs.States.{NetworkState, NoneLeft}
+use Rattle.mc_divided.specs.declared.network.DividedNetwork.{DividedNetwork}
 use Rattle.mc_rounds.proofs.Plays.{begins, few_shifts_of, fewer_shifts, no_more_shifts, played_both}
 use Rattle.mc_rounds.proofs.TurnKinds.{both_take, takes_besides}
 use Rattle.mc_rounds.specs.Playing.{GoesOn, HasPlayed, Rests, all_take, spare_shifts}
@@ -46,7 +46,7 @@ pub record CameOn (old new : NetworkState) (before after : List Turn) (shifted :
   pub fewer : MatchBool shifted (spare_shifts new < spare_shifts old) (IsTrue (all_take played.made))
 
 -- none at all
-pub rests_begin : (network : CutNetwork) (turns : List Turn) → IsCutNetwork network
+pub rests_begin : (network : DividedNetwork) (turns : List Turn) → IsDividedNetwork network
     → NoneLeft (network_state network)
     → CameOn (network_state network) (network_state network) turns turns false
 rests_begin network turns is none = record {

@@ -15,7 +15,7 @@ use Rattle.mc_model.specs.Settles.{IsSettled, IsStopped, can_shift, commands_of,
 use Rattle.mc_model.specs.Sound.{IsSound}
 use Rattle.mc_model.specs.Steps.{run}
 use Rattle.mc_model.specs.Worlds.{WorldState}
-use Rattle.mc_network.specs.States.{by_program, by_signal, IsFirstShifter, IsFirstShifterOr, NetworkState, NoneLeft, PlaysOn}
+use Rattle.mc_divided.specs.States.{by_program, by_signal, IsFirstShifter, IsFirstShifterOr, NetworkState, NoneLeft, PlaysOn}
 use Rattle.mc_seq.proofs.Runs.{run-append}
 use Rattle.mc_seq.proofs.Segments.{Resting, settled_at}
 use Rattle.mc_seq.specs.ShiftLimit.{KeepsShiftLimit}

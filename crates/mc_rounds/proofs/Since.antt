@@ -17,9 +17,9 @@ use Rattle.mc_model.specs.Settles.{can_shift, is_shift_of}
 use Rattle.mc_model.specs.Sound.{IsSound}
 use Rattle.mc_model.specs.Steps.{run, step}
 use Rattle.mc_model.specs.Worlds.{WorldState, box_at}
-use Rattle.mc_network.specs.States.HasWork.{by_program}
-use Rattle.mc_network.specs.States.{NetworkState}
-use Rattle.mc_network.proofs.NetworkBoxes.{none_shifts}
+use Rattle.mc_divided.specs.States.HasWork.{by_program}
+use Rattle.mc_divided.specs.States.{NetworkState}
+use Rattle.mc_divided.proofs.NetworkBoxes.{none_shifts}
 use Rattle.mc_rounds.proofs.Plays.{count_both}
 use Rattle.mc_rounds.proofs.Rested.{free_by, least_by}
 use Rattle.mc_rounds.proofs.TurnKinds.{either_false}

@@ -17,9 +17,9 @@ use Rattle.mc_model.specs.Paths.{has_ring}
 use Rattle.mc_model.specs.Settles.{is_quiet, is_shift_of}
 use Rattle.mc_model.specs.Steps.{run}
 use Rattle.mc_model.specs.Worlds.{WorldState, box_at}
-use Rattle.mc_network.specs.Networks.{IsCutNetwork, network_state}
-use Rattle.mc_network.specs.States.{HasWork, by_command, by_program, by_retry, by_signal, IsAtLast, NetworkState, NoneLeft, PlaysOn}
-use Rattle.mc_network.specs.declared.network.CutNetwork.{CutNetwork}
+use Rattle.mc_divided.specs.Networks.{IsDividedNetwork, network_state}
+use Rattle.mc_divided.specs.States.{HasWork, by_command, by_program, by_retry, by_signal, IsAtLast, NetworkState, NoneLeft, PlaysOn}
+use Rattle.mc_divided.specs.declared.network.DividedNetwork.{DividedNetwork}
 use Rattle.mc_rounds.proofs.Plays.{begins, few_shifts_of, none_made, none_still, phase_plays, played_more}
 use Rattle.mc_rounds.proofs.TurnKinds.{both_take, shift_after, takes_alone, takes_besides}
 use Rattle.mc_rounds.specs.Playing.{GoesOn, HasNoWork, HasPlayed, Plays, all_take, some_shift}
@@ -132,7 +132,7 @@ pub record HasTaken (old new : NetworkState) (before after : List Turn) : Type 0
   pub free : IsRingFree new.world
 
 -- none, to begin with
-pub takes_begin : (network : CutNetwork) (turns : List Turn) → IsCutNetwork network
+pub takes_begin : (network : DividedNetwork) (turns : List Turn) → IsDividedNetwork network
     → NoneLeft (network_state network) → has_ring (network_state network).world ≡ false
     → HasTaken (network_state network) (network_state network) turns turns
 takes_begin network turns is none free = record {

@@ -2,7 +2,7 @@
 use Rattle.std.proofs.Common.{◌≡◌, ◌<◌, is_some, ℕ, true, false, List, length, Option, Some, None, refl, sym, subst, arith}
 use Rattle.mc_box.specs.declared.event.Turn.{Turn}
 use Rattle.mc_model.specs.Sound.{IsSound}
-use Rattle.mc_network.specs.States.{HasCommands, NetworkState, PlaysOn}
+use Rattle.mc_divided.specs.States.{HasCommands, NetworkState, PlaysOn}
 use Rattle.mc_rounds.proofs.Inside.{command_there, run_below}
 use Rattle.mc_rounds.proofs.Plays.{no_more, phase_plays, played_more, same_count, total_less}
 use Rattle.mc_rounds.specs.Playing.{HasPlayed, Plays, UsesUp, command_total}

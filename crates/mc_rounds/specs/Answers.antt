@@ -4,8 +4,8 @@ use Rattle.std.specs.declared.alloc.Global.{Global}
 use Rattle.std.specs.declared.vec.Vec.{Vec}
 use Rattle.mc_box.specs.declared.event.Turn.{Turn}
 use Rattle.mc_model.specs.Worlds.{WorldState, place}
-use Rattle.mc_network.specs.Networks.{world_in}
-use Rattle.mc_network.specs.declared.network.CutNetwork.{CutNetwork}
+use Rattle.mc_divided.specs.Networks.{world_in}
+use Rattle.mc_divided.specs.declared.network.DividedNetwork.{DividedNetwork}
 use Rattle.mc_seq.specs.declared.fault.SettleFault.{SettleFault}
 use Rattle.mc_seq.specs.declared.fault.SettleFault.TheVariants.{Restless, Ring, VersionEnd}
 use Rattle.mc_seq.specs.declared.fault.Stopped.{Stopped}
@@ -25,8 +25,8 @@ pub record TellsBox (turns : List Turn) (at : ℕ) (stop : StoppedBox) : Type 0 
   pub turns_are : stop.turns.items ≡ turns
 
 -- what a settle answers at each ending
-abbrev pub Answered : CutNetwork → Vec Turn Global → Option SettleStop
-    → Result (CutNetwork × Vec Turn Global) SettleFault → Type 0
+abbrev pub Answered : DividedNetwork → Vec Turn Global → Option SettleStop
+    → Result (DividedNetwork × Vec Turn Global) SettleFault → Type 0
 Answered network turns None (Ok done) = done ≡ (network, turns)
 Answered network turns (Some (stops.Ring at)) (Err (Ring stop)) = TellsSlot (world_in network) turns.items at stop
 Answered network turns (Some (stops.Restless at)) (Err (Restless stop)) = TellsBox turns.items at stop

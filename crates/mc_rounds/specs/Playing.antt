@@ -8,7 +8,7 @@ use Rattle.mc_model.specs.Paths.{has_ring}
 use Rattle.mc_model.specs.Rings.{IsFirstOnRing}
 use Rattle.mc_model.specs.Settles.{commands_of, is_retry_of, is_shift_of, takes_or_retries, world_owes}
 use Rattle.mc_model.specs.Steps.{run}
-use Rattle.mc_network.specs.States.{HasWork, IsAtLast, NetworkState, NoneLeft}
+use Rattle.mc_divided.specs.States.{HasWork, IsAtLast, NetworkState, NoneLeft}
 use Rattle.mc_slot_laws.specs.Sums.{total}
 
 -- ---- phases

@@ -8,7 +8,7 @@ use Rattle.mc_model.specs.Rings.{IsFirstOnRing}
 use Rattle.mc_model.specs.Settles.{IsSettled, IsStopped, MeetsLast, commands_of}
 use Rattle.mc_model.specs.Sound.{IsSound}
 use Rattle.mc_model.specs.Worlds.{WorldState}
-use Rattle.mc_network.specs.States.{NetworkState}
+use Rattle.mc_divided.specs.States.{NetworkState}
 use Rattle.mc_seq.specs.Restless.{IsRestless}
 use Rattle.mc_seq.specs.ShiftLimit.{KeepsShiftLimit}
 use Rattle.mc_seq.specs.declared.stopping.SettleStop.{SettleStop}

@@ -5,7 +5,7 @@ use Rattle.mc_box.specs.declared.event.Event.TheVariants.{Shift}
 use Rattle.mc_box.specs.declared.event.Turn.{Turn}
 use Rattle.mc_model.specs.Settles.{is_shift_of}
 use Rattle.mc_model.specs.Worlds.{WorldState, box_at}
-use Rattle.mc_network.specs.States.{NetworkState}
+use Rattle.mc_divided.specs.States.{NetworkState}
 
 -- each Shift among them is counted, and no other
 abbrev pub CountsShifts : List Turn → NetworkState → Type 0

@@ -2,20 +2,20 @@
 
 ghost use Rattle.std.specs.Prelude.{◌≡◌};
 ghost use Rattle.mc_model.specs.Worlds.{place};
-ghost use Rattle.mc_network.specs.Networks.{IsCutNetwork, network_state};
+ghost use Rattle.mc_divided.specs.Networks.{IsDividedNetwork, network_state};
 ghost use Rattle.mc_rounds.specs.Answers.{Answered, TellsSlot};
 
 use mc_box::Turn;
-use mc_network::CutNetwork;
+use mc_divided::DividedNetwork;
 use mc_seq::{SettleFault, SettleStop, Stopped, StoppedBox};
 
 /// The network with the turns of its settle, or why it stopped, with the turns until then.
 pub fn answer(
-    network: CutNetwork,
+    network: DividedNetwork,
     turns: Vec<Turn>,
     ending: Option<SettleStop>,
-) -> Result<(CutNetwork, Vec<Turn>), SettleFault>
-    requires { IsCutNetwork network }
+) -> Result<(DividedNetwork, Vec<Turn>), SettleFault>
+    requires { IsDividedNetwork network }
     ensures { Answered network turns ending result }
 {
     match ending {
@@ -29,8 +29,8 @@ pub fn answer(
 }
 
 // The turns of a settle that stops at a slot.
-fn stop_at(network: &CutNetwork, turns: Vec<Turn>, at: u32) -> Stopped
-    requires { IsCutNetwork network.now }
+fn stop_at(network: &DividedNetwork, turns: Vec<Turn>, at: u32) -> Stopped
+    requires { IsDividedNetwork network.now }
     ensures { TellsSlot (network_state network.now).world turns.items at result }
 {
     let place = network.frame.place(at);

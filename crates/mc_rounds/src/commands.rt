@@ -2,21 +2,21 @@
 
 ghost use Rattle.std.specs.Prelude.{◌≡◌, IfOk, OnOk};
 ghost use Rattle.mc_model.specs.Shapes.{AreAllowed};
-ghost use Rattle.mc_network.specs.Networks.{IsCutNetwork, network_state};
+ghost use Rattle.mc_divided.specs.Networks.{IsDividedNetwork, network_state};
 ghost use Rattle.mc_rounds.specs.Playing.{UsesUp};
 ghost use Rattle.mc_rounds.specs.Settling.{HasBatch};
 
 use mc_box::Turn;
+use mc_divided::{DividedNetwork, add_command, begin_settle, has_commands, run_phase};
 use mc_io::Gate;
-use mc_network::{CutNetwork, add_command, begin_settle, has_commands, run_phase};
 use std::alloc::AllocError;
 use std::thread::Threads;
 
 /// A settle begins, with the commands of a batch.
-pub fn begin(network: &mut CutNetwork, batch: &[Turn]) -> Result<(), AllocError>
-    requires cut { IsCutNetwork network.old }
+pub fn begin(network: &mut DividedNetwork, batch: &[Turn]) -> Result<(), AllocError>
+    requires divided { IsDividedNetwork network.old }
     requires allowed { AreAllowed (network_state network.old).world batch.now }
-    ensures cut { OnOk result (IsCutNetwork network.new) }
+    ensures divided { OnOk result (IsDividedNetwork network.new) }
     ensures has { OnOk result (HasBatch (network_state network.old).world batch.now (network_state network.new)) }
 {
     begin_settle(network);
@@ -31,11 +31,11 @@ pub fn use_up<R: Threads + Sync, G: Gate + Sync>(
     rt: &R,
     gate: &G,
     short: bool,
-    network: &mut CutNetwork,
+    network: &mut DividedNetwork,
     turns: &mut Vec<Turn>,
 ) -> Result<Option<(u32, u8)>, AllocError>
-    requires { IsCutNetwork network.old }
-    ensures cut { OnOk result (IsCutNetwork network.new) }
+    requires { IsDividedNetwork network.old }
+    ensures divided { OnOk result (IsDividedNetwork network.new) }
     ensures used { IfOk result (UsesUp (network_state network.old) (network_state network.new)
         turns.old.items turns.new.items) }
 {

@@ -4,8 +4,8 @@ ghost use Rattle.std.specs.Prelude.{◌≡◌, ◌||◌, false, List, IfOk, OnOk
 ghost use Rattle.mc_box.specs.declared.event.Turn.{Turn};
 ghost use Rattle.mc_model.specs.Paths.{has_ring};
 ghost use Rattle.mc_model.specs.Worlds.{WorldState};
-ghost use Rattle.mc_network.specs.Networks.{IsCutNetwork, network_state};
-ghost use Rattle.mc_network.specs.States.{NetworkState, NoneLeft};
+ghost use Rattle.mc_divided.specs.Networks.{IsDividedNetwork, network_state};
+ghost use Rattle.mc_divided.specs.States.{NetworkState, NoneLeft};
 ghost use Rattle.mc_rounds.specs.Playing.{Plays};
 ghost use Rattle.mc_rounds.specs.Settling.{EndsSettle, HasBatch};
 ghost use Rattle.mc_rounds.specs.Since.{CountsShifts};
@@ -14,8 +14,8 @@ use crate::playing::retry;
 use crate::resting::come_to_rest;
 use crate::shifting::first_shifter_since;
 use mc_box::Turn;
+use mc_divided::{DividedNetwork, end_settle};
 use mc_io::Gate;
-use mc_network::{CutNetwork, end_settle};
 use mc_seq::SettleStop;
 use std::alloc::{AllocError, Global};
 use std::thread::Threads;
@@ -27,14 +27,14 @@ pub fn finish<R: Threads + Sync, G: Gate + Sync>(
     alloc: Global,
     gate: &G,
     linked: bool,
-    network: &mut CutNetwork,
+    network: &mut DividedNetwork,
     turns: &mut Vec<Turn>,
 ) -> Result<Option<SettleStop>, AllocError>
-    requires cut { IsCutNetwork network.old }
+    requires divided { IsDividedNetwork network.old }
     requires used_up { NoneLeft (network_state network.old) }
     requires counted { CountsShifts turns.old.items (network_state network.old) }
     requires free { linked ≡ false → has_ring (network_state network.old).world ≡ false }
-    ensures cut { OnOk result (IsCutNetwork network.new) }
+    ensures divided { OnOk result (IsDividedNetwork network.new) }
     ensures ended { IfOk result (λ ending. (world : WorldState) (batch : List Turn) (start : NetworkState)
         → HasBatch world batch start → Plays start (network_state network.old) turns.old.items
         → EndsSettle world batch turns.new.items (network_state network.new).world ending) }

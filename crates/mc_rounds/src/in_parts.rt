@@ -3,14 +3,14 @@
 ghost use Rattle.std.specs.Prelude.{◌≡◌, ◌≤◌, length, IfErr, IfOk};
 ghost use Rattle.mc_model.specs.Settles.{IsSettled};
 ghost use Rattle.mc_model.specs.Shapes.{AreAllowed};
-ghost use Rattle.mc_network.specs.declared.limit.TheConstants.{NETWORK_LIMIT};
+ghost use Rattle.mc_divided.specs.declared.limit.TheConstants.{NETWORK_LIMIT};
 ghost use Rattle.mc_rounds.specs.Stops.{Stops};
 ghost use Rattle.mc_seq.specs.ShiftLimit.{KeepsShiftLimit};
 
 use crate::settling::settle;
 use mc_box::{MediaBox, Turn};
+use mc_divided::{DividedNetwork, box_of, divide_network, slot_number, whole_world};
 use mc_io::Gate;
-use mc_network::{CutNetwork, box_of, cut_network, slot_number, whole_world};
 use mc_path::Network;
 use mc_seq::SettleFault;
 use mc_world::World;
@@ -21,11 +21,11 @@ use std::thread::{Threads, available_parallelism};
 // A network has so many parts at least, where it has as many boxes: two boxes may have to run at once.
 const FEWEST_PARTS: usize = 2;
 
-/// A network between two settles. It is cut into parts, once for all settles, and seen as the world for which they
+/// A network between two settles. It is divided into parts, once for all settles, and seen as the world for which they
 /// stand.
 #[derive(Drop)]
 pub struct InParts {
-    network: CutNetwork,
+    network: DividedNetwork,
 }
 
 impl Model for InParts {
@@ -33,21 +33,21 @@ impl Model for InParts {
 
     ghost Value = { WorldState };
 
-    ghost use Rattle.mc_network.specs.Networks.{IsCutNetwork, world_in};
+    ghost use Rattle.mc_divided.specs.Networks.{IsDividedNetwork, world_in};
 
     ghost view = { λ parted. world_in parted.network };
 
-    ghost invariant = { λ parted. IsCutNetwork parted.network };
+    ghost invariant = { λ parted. IsDividedNetwork parted.network };
 }
 
 impl InParts {
-    /// Cuts a world into at most so many parts, or into one where that is 0. The world has at most
-    /// `mc_network::limit::NETWORK_LIMIT` boxes. It fails only for want of memory; the world is gone then.
+    /// Divisions a world into at most so many parts, or into one where that is 0. The world has at most
+    /// `mc_divided::limit::NETWORK_LIMIT` boxes. It fails only for want of memory; the world is gone then.
     pub fn new(alloc: Global, world: World, most: usize) -> Result<InParts, AllocError>
         requires few { length world.boxes ≤ NETWORK_LIMIT }
         ensures { IfOk result (λ parted. parted ≡ world) }
     {
-        let network = cut_network(alloc, world, most)?;
+        let network = divide_network(alloc, world, most)?;
         Ok(InParts { network })
     }
 

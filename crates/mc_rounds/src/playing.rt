@@ -3,13 +3,13 @@
 ghost use Rattle.std.specs.Prelude.{◌≡◌, false, IfOk, OnOk};
 ghost use Rattle.mc_box.specs.BoxEvents.{is_shift};
 ghost use Rattle.mc_model.specs.Paths.{has_ring};
-ghost use Rattle.mc_network.specs.Networks.{IsCutNetwork, network_state};
-ghost use Rattle.mc_network.specs.States.{NoneLeft};
+ghost use Rattle.mc_divided.specs.Networks.{IsDividedNetwork, network_state};
+ghost use Rattle.mc_divided.specs.States.{NoneLeft};
 ghost use Rattle.mc_rounds.specs.Playing.{GoesOn, Retries, some_shift};
 
 use mc_box::{Event, Turn};
+use mc_divided::{DividedNetwork, owes_retry, run_phase};
 use mc_io::Gate;
-use mc_network::{CutNetwork, owes_retry, run_phase};
 use std::alloc::AllocError;
 use std::thread::Threads;
 
@@ -19,13 +19,13 @@ pub fn go_on<R: Threads + Sync, G: Gate + Sync>(
     rt: &R,
     gate: &G,
     short: bool,
-    network: &mut CutNetwork,
+    network: &mut DividedNetwork,
     turns: &mut Vec<Turn>,
 ) -> Result<bool, AllocError>
-    requires cut { IsCutNetwork network.old }
+    requires divided { IsDividedNetwork network.old }
     requires used_up { NoneLeft (network_state network.old) }
     requires free { has_ring (network_state network.old).world ≡ false }
-    ensures cut { OnOk result (IsCutNetwork network.new) }
+    ensures divided { OnOk result (IsDividedNetwork network.new) }
     ensures went { IfOk result (GoesOn (network_state network.old) (network_state network.new)
         turns.old.items turns.new.items) }
 {
@@ -49,12 +49,12 @@ pub fn retry<R: Threads + Sync, G: Gate + Sync>(
     rt: &R,
     gate: &G,
     short: bool,
-    network: &mut CutNetwork,
+    network: &mut DividedNetwork,
     turns: &mut Vec<Turn>,
 ) -> Result<bool, AllocError>
-    requires cut { IsCutNetwork network.old }
+    requires divided { IsDividedNetwork network.old }
     requires used_up { NoneLeft (network_state network.old) }
-    ensures cut { OnOk result (IsCutNetwork network.new) }
+    ensures divided { OnOk result (IsDividedNetwork network.new) }
     ensures retried { IfOk result (Retries (network_state network.old) (network_state network.new)
         turns.old.items turns.new.items) }
 {

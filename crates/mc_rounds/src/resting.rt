@@ -3,14 +3,14 @@
 ghost use Rattle.std.specs.Prelude.{◌≡◌, false, IfOk, OnOk};
 ghost use Rattle.mc_model.specs.Paths.{has_ring};
 ghost use Rattle.mc_model.specs.Rings.{IsLeastOnRing};
-ghost use Rattle.mc_network.specs.Networks.{IsCutNetwork, network_state};
-ghost use Rattle.mc_network.specs.States.{NoneLeft};
+ghost use Rattle.mc_divided.specs.Networks.{IsDividedNetwork, network_state};
+ghost use Rattle.mc_divided.specs.States.{NoneLeft};
 ghost use Rattle.mc_rounds.specs.Playing.{Rests};
 
 use crate::playing::go_on;
 use mc_box::Turn;
+use mc_divided::{DividedNetwork, least_ring};
 use mc_io::Gate;
-use mc_network::{CutNetwork, least_ring};
 use std::alloc::{AllocError, Global};
 use std::thread::Threads;
 
@@ -29,13 +29,13 @@ pub fn come_to_rest<R: Threads + Sync, G: Gate + Sync>(
     gate: &G,
     short: bool,
     linked: bool,
-    network: &mut CutNetwork,
+    network: &mut DividedNetwork,
     turns: &mut Vec<Turn>,
 ) -> Result<Rest, AllocError>
-    requires cut { IsCutNetwork network.old }
+    requires divided { IsDividedNetwork network.old }
     requires used_up { NoneLeft (network_state network.old) }
     requires free { linked ≡ false → has_ring (network_state network.old).world ≡ false }
-    ensures cut { OnOk result (IsCutNetwork network.new) }
+    ensures divided { OnOk result (IsDividedNetwork network.new) }
     ensures came { IfOk result (λ rest. Rests (network_state network.old) (network_state network.new)
         turns.old.items turns.new.items rest.ring rest.shifted) }
 {
@@ -52,8 +52,12 @@ pub fn come_to_rest<R: Threads + Sync, G: Gate + Sync>(
 }
 
 // The least slot on a ring. There is none where no slots were linked.
-fn test_ring(alloc: Global, linked: bool, network: &CutNetwork) -> Result<Option<u32>, AllocError>
-    requires cut { IsCutNetwork network.now }
+fn test_ring(
+    alloc: Global,
+    linked: bool,
+    network: &DividedNetwork,
+) -> Result<Option<u32>, AllocError>
+    requires divided { IsDividedNetwork network.now }
     requires free { linked ≡ false → has_ring (network_state network.now).world ≡ false }
     ensures { IfOk result (IsLeastOnRing (network_state network.now).world) }
 {

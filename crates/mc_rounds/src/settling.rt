@@ -5,8 +5,8 @@ ghost use Rattle.mc_box.specs.LinkFree.{is_linking};
 ghost use Rattle.mc_model.specs.Settles.{IsSettled};
 ghost use Rattle.mc_model.specs.Shapes.{AreAllowed};
 ghost use Rattle.mc_model.specs.Worlds.{number};
-ghost use Rattle.mc_network.specs.Networks.{IsCutNetwork, network_state};
-ghost use Rattle.mc_network.specs.States.{IsAtLast};
+ghost use Rattle.mc_divided.specs.Networks.{IsDividedNetwork, network_state};
+ghost use Rattle.mc_divided.specs.States.{IsAtLast};
 ghost use Rattle.mc_seq.specs.ShiftLimit.{KeepsShiftLimit};
 ghost use Rattle.mc_rounds.specs.Settling.{EndsSettle, sets_link};
 ghost use Rattle.mc_rounds.specs.Stops.{Stops};
@@ -15,8 +15,8 @@ use crate::answers::answer;
 use crate::commands::{begin, use_up};
 use crate::finishing::finish;
 use mc_box::{Change, Event, Turn};
+use mc_divided::{DividedNetwork, slot_number};
 use mc_io::Gate;
-use mc_network::{CutNetwork, slot_number};
 use mc_seq::{SettleFault, SettleStop};
 use std::alloc::{AllocError, Global};
 use std::thread::Threads;
@@ -32,12 +32,12 @@ pub fn settle<R: Threads + Sync, G: Gate + Sync>(
     rt: &R,
     alloc: Global,
     gate: &G,
-    network: CutNetwork,
+    network: DividedNetwork,
     batch: &[Turn],
-) -> Result<(CutNetwork, Vec<Turn>), SettleFault>
-    requires cut { IsCutNetwork network }
+) -> Result<(DividedNetwork, Vec<Turn>), SettleFault>
+    requires divided { IsDividedNetwork network }
     requires allowed { AreAllowed (network_state network).world batch.now }
-    ensures cut { IfOk result (λ done. IsCutNetwork done.0) }
+    ensures divided { IfOk result (λ done. IsDividedNetwork done.0) }
     ensures settled { IfOk result (λ done.
         IsSettled (network_state network).world batch.now done.1.items (network_state done.0).world) }
     ensures shift_limit { IfOk result (λ done. KeepsShiftLimit done.1.items) }
@@ -55,13 +55,13 @@ fn run_batch<R: Threads + Sync, G: Gate + Sync>(
     alloc: Global,
     gate: &G,
     batch: &[Turn],
-    network: &mut CutNetwork,
+    network: &mut DividedNetwork,
     turns: &mut Vec<Turn>,
 ) -> Result<Option<SettleStop>, AllocError>
-    requires cut { IsCutNetwork network.old }
+    requires divided { IsDividedNetwork network.old }
     requires allowed { AreAllowed (network_state network.old).world batch.now }
     requires none_yet { turns.old.items ≡ [] }
-    ensures cut { OnOk result (IsCutNetwork network.new) }
+    ensures divided { OnOk result (IsDividedNetwork network.new) }
     ensures ended { IfOk result (EndsSettle (network_state network.old).world batch.now turns.new.items
         (network_state network.new).world) }
 {
@@ -78,8 +78,8 @@ fn run_batch<R: Threads + Sync, G: Gate + Sync>(
 }
 
 // The number of a slot that is at its last version.
-fn number(network: &CutNetwork, who: u32, local: u8) -> u32
-    requires cut { IsCutNetwork network.now }
+fn number(network: &DividedNetwork, who: u32, local: u8) -> u32
+    requires divided { IsDividedNetwork network.now }
     requires last { IsAtLast (network_state network.now) (who, local) }
     ensures { number (network_state network.now).world who local ≡ Some result }
 {

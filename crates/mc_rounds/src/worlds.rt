@@ -1,9 +1,9 @@
-// Settles of worlds, each of which is cut into parts for one batch.
+// Settles of worlds, each of which is divided into parts for one batch.
 
 ghost use Rattle.std.specs.Prelude.{◌≤◌, length, IfErr, IfOk};
 ghost use Rattle.mc_model.specs.Settles.{IsSettled};
 ghost use Rattle.mc_model.specs.Shapes.{AreAllowed};
-ghost use Rattle.mc_network.specs.declared.limit.TheConstants.{NETWORK_LIMIT};
+ghost use Rattle.mc_divided.specs.declared.limit.TheConstants.{NETWORK_LIMIT};
 ghost use Rattle.mc_rounds.specs.Stops.{Stops};
 ghost use Rattle.mc_seq.specs.ShiftLimit.{KeepsShiftLimit};
 
@@ -15,10 +15,10 @@ use mc_world::{Settled, World};
 use std::alloc::Global;
 use std::thread::Threads;
 
-/// Settles one batch of a world, which is cut into at most so many parts for it, and put together again. Who settles
+/// Settles one batch of a world, which is divided into at most so many parts for it, and put together again. Who settles
 /// several batches keeps the parts (`InParts`).
 ///
-/// The world allows each command, and has at most `mc_network::limit::NETWORK_LIMIT` boxes. It ends as `InParts::settle`
+/// The world allows each command, and has at most `mc_divided::limit::NETWORK_LIMIT` boxes. It ends as `InParts::settle`
 /// does; the world is gone where it doesn't rest.
 pub fn settle_world<R: Threads + Sync, G: Gate + Sync>(
     rt: &R,

@@ -1,6 +1,5 @@
 mod Accepted
 mod Causes
-mod Channels
 mod DrawsStop
 pub mod Ending
 mod EndsAlike

@@ -18,7 +18,7 @@ use Rattle.mc_lines.specs.declared.limit.TheConstants.{COMMAND_LIMIT}
 use Rattle.mc_model.specs.Worlds.{WorldState}
 use Rattle.mc_net.specs.Details.{fault_detail}
 use Rattle.mc_net.specs.Nets.{batch_turns}
-use Rattle.mc_network.specs.declared.limit.TheConstants.{NETWORK_LIMIT}
+use Rattle.mc_divided.specs.declared.limit.TheConstants.{NETWORK_LIMIT}
 use Rattle.mc_net.specs.TextLaws.{first_bytes}
 use Rattle.mc_net.specs.Texts.{IsFault}
 use Rattle.mc_net.specs.declared.net.Net.{Net}

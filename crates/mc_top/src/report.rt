@@ -102,7 +102,7 @@ fn print_heading(
     let number = format!(in alloc; "{number}")?;
     let size = format!(in alloc; "{size}")?;
     let boxes = format!(in alloc; "{}", world.boxes().len())?;
-    let channels = format!(in alloc; "{}", channel_count(world))?;
+    let channels = format!(in alloc; "{}", world.channel_count())?;
     let mut text = Vec::new(alloc);
     put_line(b"gen", &[number.as_bytes(), size.as_bytes()], &mut text)?;
     put_line(
@@ -111,17 +111,4 @@ fn print_heading(
         &mut text,
     )?;
     Ok(text)
-}
-
-// How many channels a world has: each has a slot, so they are one more than the number of the last slot's.
-fn channel_count(world: &World) -> u64
-    ensures { result ≡ length world.now.channels }
-{
-    world.keeps();
-    let slots = world.slot_count();
-    if slots == 0 {
-        return 0;
-    }
-    let last = (slots - 1) as u32;
-    u64::from(world.channel(last).0) + 1
 }

@@ -5,7 +5,7 @@ ghost use Rattle.mc_model.specs.Paths.{paths};
 ghost use Rattle.mc_model.specs.Settles.{IsSettled, is_quiet};
 ghost use Rattle.mc_model.specs.Shapes.{AreAllowed};
 ghost use Rattle.mc_model.specs.Sound.{IsSound};
-ghost use Rattle.mc_network.specs.declared.limit.TheConstants.{NETWORK_LIMIT};
+ghost use Rattle.mc_divided.specs.declared.limit.TheConstants.{NETWORK_LIMIT};
 ghost use Rattle.mc_path.specs.Views.{view_of};
 ghost use Rattle.mc_path_laws.specs.PathLaws.{IsQuietPath};
 ghost use Rattle.mc_rounds.specs.Stops.{Stops};

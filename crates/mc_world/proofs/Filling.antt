@@ -9,10 +9,10 @@ use Rattle.std.proofs.lemmas.Option.{get_or_from_slice_get, slice_get-get_or, sl
 use Rattle.mc_box.specs.Boxes.{BoxState}
 use Rattle.mc_laws.proofs.Numbers.{some_same}
 use Rattle.mc_model.specs.Worlds.{ChannelState, places_among}
-use Rattle.mc_world.specs.Cuts.{AreFilled, ArePlaced, FitsBoxes, HasPlaces, IsCut, PutsAt}
+use Rattle.mc_world.specs.Pieces.{AreFilled, ArePlaced, FitsBoxes, HasPlaces, IsPiece, PutsAt}
 use Rattle.mc_world.specs.Lanes.{numbers_of}
 use Rattle.mc_world.specs.declared.topology.Topology.{Topology}
-use Rattle.mc_world.proofs.Cutting.{numbered}
+use Rattle.mc_world.proofs.PieceTables.{numbered}
 
 -- ---- a table of nothing
 
@@ -128,15 +128,15 @@ all_placed topology homes count has filled many = record {
 }
 
 -- so does that of boxes and channels of an engine
-pub cut_passes : (topology : Topology) (boxes : List BoxState) (channels : List ChannelState) (homes : ℕ) → topology.places.items ≡ places_among channels → length topology.numbers.items ≡ homes
-    → ((count : ℕ → ℕ) → HasPlaces topology.places.items homes count → AreFilled topology.places.items count (length topology.places.items) (tables_of topology)) → IsCut boxes channels homes
+pub piece_passes : (topology : Topology) (boxes : List BoxState) (channels : List ChannelState) (homes : ℕ) → topology.places.items ≡ places_among channels → length topology.numbers.items ≡ homes
+    → ((count : ℕ → ℕ) → HasPlaces topology.places.items homes count → AreFilled topology.places.items count (length topology.places.items) (tables_of topology)) → IsPiece boxes channels homes
     → FitsBoxes topology boxes
-cut_passes topology boxes channels homes are many fills cut =
-    let has : HasPlaces topology.places.items homes cut.count = subst (λ (l : List (ℕ × ℕ)). HasPlaces l homes cut.count) (sym are) cut.places in
-    let filled = fills cut.count has in
+piece_passes topology boxes channels homes are many fills piece =
+    let has : HasPlaces topology.places.items homes piece.count = subst (λ (l : List (ℕ × ℕ)). HasPlaces l homes piece.count) (sym are) piece.places in
+    let filled = fills piece.count has in
     record {
-      placed = all_placed topology homes cut.count has filled many;
-      slots = record { within = omega (arith, cut.within, many); slots = λ who here. all_numbers topology homes cut.count who has filled (omega (arith, here, cut.within)) ∙ sym (cut.slots who here) };
+      placed = all_placed topology homes piece.count has filled many;
+      slots = record { within = omega (arith, piece.within, many); slots = λ who here. all_numbers topology homes piece.count who has filled (omega (arith, here, piece.within)) ∙ sym (piece.slots who here) };
     }
 
 -- ---- a table that passes is of boxes and channels of an engine
@@ -154,8 +154,8 @@ passed_places topology are = record {
   few = λ who here. (are.placed who here).few;
 }
 
-pub passed_cut : (topology : Topology) (boxes : List BoxState) (channels : List ChannelState) (homes : ℕ) → topology.places.items ≡ places_among channels → length topology.numbers.items ≡ homes → FitsBoxes topology boxes → IsCut boxes channels homes
-passed_cut topology boxes channels homes are many fits = record {
+pub passed_piece : (topology : Topology) (boxes : List BoxState) (channels : List ChannelState) (homes : ℕ) → topology.places.items ≡ places_among channels → length topology.numbers.items ≡ homes → FitsBoxes topology boxes → IsPiece boxes channels homes
+passed_piece topology boxes channels homes are many fits = record {
   count = λ who. length (numbers_of topology who);
   places = subst (λ (l : List (ℕ × ℕ)). HasPlaces l homes (λ who. length (numbers_of topology who))) are
       (subst (λ (n : ℕ). HasPlaces topology.places.items n (λ who. length (numbers_of topology who))) many (passed_places topology fits.placed));

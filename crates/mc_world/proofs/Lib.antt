@@ -17,7 +17,7 @@ mod Waits
 mod Serving
 mod Running
 mod FirstHomes
-mod Cutting
+mod PieceTables
 mod Filling
-mod CutLanes
+mod PieceLanes
 mod JoinedTables

@@ -38,7 +38,7 @@ use Rattle.mc_world.specs.declared.waiting.Waiting.{Waiting}
 use Rattle.mc_laws.proofs.Numbers.{found_at}
 use Rattle.mc_laws.proofs.Sums.{total_has}
 use Rattle.mc_slot_laws.specs.Sums.{total}
-use Rattle.mc_world.proofs.Cutting.{none_past}
+use Rattle.mc_world.proofs.PieceTables.{none_past}
 use Rattle.mc_world.proofs.LaneChanges.{Lane, refilled}
 use Rattle.mc_world.proofs.Serving.{all_served, each_set, front_left, next_served}
 use Rattle.mc_world.proofs.Tables.{box_read}

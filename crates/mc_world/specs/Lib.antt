@@ -8,5 +8,5 @@ pub mod Senders
 pub mod StepAnswers
 pub mod Tables
 pub mod Waiting
-pub mod Cuts
+pub mod Pieces
 pub mod Pumping

@@ -12,7 +12,7 @@ mod waiting;
 pub use mc_laws::laws;
 pub use mc_model::{Channel, TUNNEL_LIMIT, Tunnel};
 pub use network::{
-    CutFault, Engine, Outgoing, Parts, Pieces, PutFault, StepFault, World, engine_of,
+    Engine, Outgoing, Parts, PieceFault, Pieces, PutFault, StepFault, World, engine_of,
 };
 pub use ringing::least_on_ring;
 pub use settled::Settled;

@@ -12,16 +12,15 @@ ghost use Rattle.mc_world.specs.Waiting.{take_waits, waiting_count, CountsTakes}
 ghost use Rattle.mc_model.specs.declared.channel.TheConstants.{TUNNEL_LIMIT};
 ghost use Rattle.mc_model.specs.Worlds.{AreChannels, first_world, slot_count, box_at, place, number, far, tunnel_of, front, lane_of, front_for, slot_of, goal_of, places_among, places_within, tunnels_from, tunnels_within};
 
-mod cut;
 mod engine;
 mod joining;
 mod parts;
+mod piece;
 mod rings;
 mod step;
 
 use crate::topology::{Topology, far, front_for, numbers_among};
 use crate::waiting::Waiting;
-pub use cut::{CutFault, Pieces, engine_of};
 pub use engine::{Engine, Outgoing, PutFault};
 use mc_box::{Event, MediaBox};
 use mc_lane::Lane;
@@ -30,6 +29,7 @@ use mc_signal::{Signal, Tagged};
 use mc_slot::{Slot, SlotGoal};
 use mc_sums::Sums;
 pub use parts::Parts;
+pub use piece::{PieceFault, Pieces, engine_of};
 use std::alloc::{AllocError, Global};
 use std::marker::Model;
 pub use step::StepFault;
@@ -121,6 +121,13 @@ impl World {
         ensures { result ≡ slot_count self.now }
     {
         self.topology.places.len()
+    }
+
+    /// The number of the channels.
+    pub fn channel_count(&self) -> usize
+        ensures { result ≡ length self.now.channels }
+    {
+        self.channels.len()
     }
 
     /// The box of a slot, and the slot's local number there.

@@ -1,7 +1,7 @@
 use Rattle.std.proofs.Common.{arith}
 use Rattle.mc_model.specs.Worlds.{channel_number_limit}
 use Rattle.mc_part.proofs.Filling.{crossing_added, crossing_few, inner_added}
-use Rattle.mc_part.specs.Cuts.{is_crossing}
+use Rattle.mc_part.specs.Divisions.{is_crossing}
 use Rattle.std.proofs.Common.{filter}
 use Rattle.mc_part.proofs.channels.channels_in.Goals as goal
 

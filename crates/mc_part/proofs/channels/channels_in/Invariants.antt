@@ -1,5 +1,5 @@
 use Rattle.std.proofs.Common.{◌≡◌, ◌++◌, filter, take}
-use Rattle.mc_part.specs.Cuts.{channels_from, is_crossing, is_inner}
+use Rattle.mc_part.specs.Divisions.{channels_from, is_crossing, is_inner}
 use Rattle.mc_part.proofs.channels.channels_in.Given as goal
 
 -- those that cross so far

@@ -1,5 +1,5 @@
 use Rattle.std.proofs.Common.{◌≡◌, take}
-use Rattle.mc_part.specs.Cuts.{tunnels_in}
+use Rattle.mc_part.specs.Divisions.{tunnels_in}
 use Rattle.mc_part.proofs.channels.tunnels_in.Given as goal
 
 -- the tunnels so far

@@ -1,5 +1,5 @@
 use Rattle.std.proofs.Common.{◌≡◌, take}
-use Rattle.mc_part.specs.Cutting.{counts_of}
+use Rattle.mc_part.specs.DividedParts.{counts_of}
 use Rattle.mc_part.proofs.Filling.{numbers_so_far}
 use Rattle.mc_part.proofs.homes.homes_of.Given as goal
 

@@ -1,5 +1,5 @@
 use Rattle.std.proofs.Common.{◌≡◌, [], replicate}
-use Rattle.mc_part.specs.Cutting.{inner_lists}
+use Rattle.mc_part.specs.DividedParts.{inner_lists}
 use Rattle.mc_part.proofs.sharing.empty_lists.Given as goal
 
 abbrev pub invariant-loop-done : goal.invariant-loop-done

@@ -1,5 +1,5 @@
 use Rattle.std.proofs.Common.{◌-◌, ◌∙◌, length, refl, arith}
-use Rattle.mc_part.specs.Cutting.{inner_lists}
+use Rattle.mc_part.specs.DividedParts.{inner_lists}
 use Rattle.mc_part.proofs.Gathering.{all_gathered, list_count, lists_kept, more_gathered, none_gathered, one_left}
 use Rattle.mc_part.proofs.sharing.gather.Goals as goal
 

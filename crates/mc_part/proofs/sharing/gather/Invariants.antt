@@ -1,4 +1,4 @@
-use Rattle.mc_part.specs.Cutting.{inner_lists}
+use Rattle.mc_part.specs.DividedParts.{inner_lists}
 use Rattle.mc_part.proofs.Gathering.{GathersFrom}
 use Rattle.mc_part.proofs.sharing.gather.Given as goal
 

@@ -1,5 +1,5 @@
 use Rattle.std.proofs.Common.{◌≡◌, drop}
-use Rattle.mc_part.specs.Cutting.{inner_lists}
+use Rattle.mc_part.specs.DividedParts.{inner_lists}
 use Rattle.mc_part.proofs.Shares.{shares_so_far}
 use Rattle.mc_part.proofs.sharing.share.Given as goal
 

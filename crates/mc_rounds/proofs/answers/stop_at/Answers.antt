@@ -1,5 +1,5 @@
 use Rattle.std.proofs.Common.{length, refl}
-use Rattle.mc_network.specs.Networks.{channels_of}
+use Rattle.mc_divided.specs.Networks.{channels_of}
 use Rattle.mc_rounds.proofs.answers.stop_at.Goals as goal
 
 pub returns : goal.returns

@@ -3,7 +3,7 @@ use Rattle.std.proofs.lemmas.List.{take_all, take_more}
 use Rattle.mc_box.specs.declared.event.Event.TheVariants.{Take}
 use Rattle.mc_box.specs.declared.event.Turn.{Turn}
 use Rattle.mc_model.specs.Worlds.{WorldState}
-use Rattle.mc_network.specs.Networks.{network_state}
+use Rattle.mc_divided.specs.Networks.{network_state}
 use Rattle.mc_rounds.proofs.Added.{HasAdded, allowed_at, batch_added, none_added, one_added, world_stays}
 use Rattle.mc_rounds.proofs.commands.begin.Goals as goal
 
@@ -15,7 +15,7 @@ same c = world_stays (network_state c.args.network.now) (network_state c.begin_s
 
 pub loop-turn-init : goal.loop-turn-init
 loop-turn-init c = record {
-  cut = c.begin_settle.ensures.cut;
+  divided = c.begin_settle.ensures.divided;
   added =
       subst (λ (world : WorldState). HasAdded world (network_state c.begin_settle.new.network) []) (sym (same c))
       (none_added (network_state c.args.network.now).world (network_state c.begin_settle.new.network)
@@ -34,7 +34,7 @@ pub loop-turn-preserved : goal.loop-turn-preserved
 loop-turn-preserved c =
     let turn : Turn = slice_index_or c.args.batch.now c.loop-turn.turn-index (record { who = 0; event = Take 0 }) in
     record {
-      cut = c.in_ok-add_command.ensures.cut;
+      divided = c.in_ok-add_command.ensures.divided;
       added =
           subst (λ (turns : List Turn). HasAdded (network_state c.begin_settle.new.network).world
           (network_state c.add_command.new.network) turns)
@@ -53,7 +53,7 @@ loop-turn-preserved c =
 pub returns-clause-has : goal.returns-clause-has
 returns-clause-has c =
     batch_added (network_state c.args.network.now).world (network_state c.loop-turn.network) c.args.batch.now
-    c.requires.cut.sound
+    c.requires.divided.sound
     (subst (λ (world : WorldState). HasAdded world (network_state c.loop-turn.network) c.args.batch.now)
     (world_stays (network_state c.args.network.now) (network_state c.begin_settle.new.network)
     c.begin_settle.ensures.state)

@@ -1,13 +1,13 @@
 use Rattle.std.proofs.Common.{Bool, false, ◌≡◌, ◌∙◌, ◌||◌, List, ap, sym, subst}
 use Rattle.mc_box.specs.declared.event.Turn.{Turn}
-use Rattle.mc_network.specs.Networks.{network_state}
+use Rattle.mc_divided.specs.Networks.{network_state}
 use Rattle.mc_rounds.proofs.Retried.{HasWentOn, at_rest, ends_at_ring, ends_kept, ends_restless, ends_settled, free_retry, none_shifts, on_ring, rests_fewer, shifter_of, went_begin, went_rest, went_retry}
 use Rattle.mc_rounds.proofs.Since.{counted_as, counted_more, counted_rested}
 use Rattle.mc_rounds.proofs.finishing.finish.Goals as goal
 
 pub rests-init : goal.rests-init
 rests-init g c = record {
-  cut = c.requires.cut;
+  divided = c.requires.divided;
   none = c.requires.used_up;
   counted = c.requires.counted;
   free = c.requires.free;
@@ -74,8 +74,8 @@ pub rests-smaller : goal.rests-smaller
 rests-smaller g c =
     rests_fewer (network_state c.rests.network) (network_state c.come_to_rest.new.network)
     (network_state c.retry.new.network) c.rests.turns.items c.come_to_rest.new.turns.items c.retry.new.turns.items
-    c.rests.due c.in_ok-rest.rest.shifted c.in_ok-due.due c.in_ok-rest.rest.ring c.rests.invariant.cut.sound
-    c.in_ok-rest.ensures.cut.sound c.in_ok-rest.ensures.came c.in_ok-due.ensures.retried
+    c.rests.due c.in_ok-rest.rest.shifted c.in_ok-due.due c.in_ok-rest.rest.ring c.rests.invariant.divided.sound
+    c.in_ok-rest.ensures.divided.sound c.in_ok-rest.ensures.came c.in_ok-due.ensures.retried
     (sym c.is_due.ensures ∙ c.if-not-is_due.false)
 
 pub rests-preserved : goal.rests-preserved
@@ -85,7 +85,7 @@ rests-preserved g c =
     let rest =
     at_rest (network_state c.come_to_rest.new.network) c.in_ok-rest.rest.ring came.ended c.in_default.is in
     record {
-      cut = c.in_ok-due.ensures.cut;
+      divided = c.in_ok-due.ensures.divided;
       none = retries.none;
       counted =
           counted_more (network_state c.come_to_rest.new.network) (network_state c.retry.new.network)
@@ -93,7 +93,7 @@ rests-preserved g c =
           (counted_rested (network_state c.rests.network) (network_state c.come_to_rest.new.network) c.rests.turns.items
           c.come_to_rest.new.turns.items _ _ c.in_ok-rest.ensures.came c.rests.invariant.counted);
       free = λ off. free_retry (network_state c.come_to_rest.new.network) (network_state c.retry.new.network)
-          c.come_to_rest.new.turns.items c.retry.new.turns.items c.in_ok-due.due c.in_ok-rest.ensures.cut.sound retries
+          c.come_to_rest.new.turns.items c.retry.new.turns.items c.in_ok-due.due c.in_ok-rest.ensures.divided.sound retries
           rest.1 off;
       went =
           went_retry (network_state c.args.network.now) (network_state c.come_to_rest.new.network)

@@ -1,7 +1,7 @@
 use Rattle.std.proofs.Common.{◌≡◌, false}
 use Rattle.mc_model.specs.Paths.{has_ring}
-use Rattle.mc_network.specs.Networks.{IsCutNetwork, network_state}
-use Rattle.mc_network.specs.States.{NoneLeft}
+use Rattle.mc_divided.specs.Networks.{IsDividedNetwork, network_state}
+use Rattle.mc_divided.specs.States.{NoneLeft}
 use Rattle.mc_rounds.proofs.Retried.{HasWentOn}
 use Rattle.mc_rounds.specs.Settling.{rests_left}
 use Rattle.mc_rounds.specs.Since.{CountsShifts}
@@ -10,7 +10,7 @@ use Rattle.mc_rounds.proofs.finishing.finish.Given as goal
 -- phases led here, and where none of retries is due one was made at a rest
 abbrev pub invariant-rests : goal.invariant-rests
 invariant-rests g l = record {
-  cut : IsCutNetwork l.network;
+  divided : IsDividedNetwork l.network;
   none : NoneLeft (network_state l.network);
   counted : CountsShifts l.turns.items (network_state l.network);
   free : l.linked ≡ false → has_ring (network_state l.network).world ≡ false;

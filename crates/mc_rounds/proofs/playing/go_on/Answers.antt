@@ -1,12 +1,12 @@
 use Rattle.std.proofs.Common.{arith, false, sym, true, ◌∙◌}
-use Rattle.mc_network.specs.Networks.{network_state}
+use Rattle.mc_divided.specs.Networks.{network_state}
 use Rattle.mc_rounds.proofs.Takes.{ends_still, ends_shifted, never_last, shift_told, takes_begin, takes_lower, takes_more}
 use Rattle.mc_rounds.proofs.playing.go_on.Goals as goal
 
 pub phases-init : goal.phases-init
 phases-init g c = record {
-  cut = c.requires.cut;
-  takes = takes_begin c.args.network.now c.args.turns.now.items c.requires.cut c.requires.used_up c.requires.free;
+  divided = c.requires.divided;
+  takes = takes_begin c.args.network.now c.args.turns.now.items c.requires.divided c.requires.used_up c.requires.free;
 }
 
 pub unreachable-requires : goal.unreachable-requires
@@ -44,7 +44,7 @@ pub phases-preserved : goal.phases-preserved
 phases-preserved g c =
     let played = c.in_ok-run_phase.ensures.played in
     record {
-      cut = c.in_ok-run_phase.ensures.cut;
+      divided = c.in_ok-run_phase.ensures.divided;
       takes =
           takes_more (network_state c.args.network.now) (network_state c.phases.network)
           (network_state c.run_phase.new.network) c.args.turns.now.items c.phases.turns.items

@@ -1,7 +1,7 @@
 use Rattle.std.proofs.Common.{◌∙◌, List, ap, sym}
 use Rattle.mc_box.specs.declared.event.Turn.{Turn}
-use Rattle.mc_network.specs.Networks.{network_state}
-use Rattle.mc_network.specs.States.{IsAtLast, NoneLeft}
+use Rattle.mc_divided.specs.Networks.{network_state}
+use Rattle.mc_divided.specs.States.{IsAtLast, NoneLeft}
 use Rattle.mc_rounds.proofs.AtLast.{at_last, ends_at_last}
 use Rattle.mc_rounds.proofs.Plays.{plays_from}
 use Rattle.mc_rounds.proofs.Retried.{ends_for}
@@ -19,9 +19,9 @@ finish-requires-clause-counted g c κs below =
 pub finish-requires-clause-free : goal.finish-requires-clause-free
 finish-requires-clause-free g c κs below off =
     free_batch (network_state c.args.network.now) (network_state c.begin.new.network) (network_state c.use_up.new.network)
-    c.args.batch.now c.args.turns.now.items c.use_up.new.turns.items c.requires.none_yet c.requires.cut.sound
-    c.in_ok-who.ensures.cut.sound c.in_ok-begin.ensures.has c.in_ok-who.ensures.used.played
-    (c.requires.cut.free (c.may_be_linked-linked.ensures.free off))
+    c.args.batch.now c.args.turns.now.items c.use_up.new.turns.items c.requires.none_yet c.requires.divided.sound
+    c.in_ok-who.ensures.divided.sound c.in_ok-begin.ensures.has c.in_ok-who.ensures.used.played
+    (c.requires.divided.free (c.may_be_linked-linked.ensures.free off))
     (ap (λ (l : List Turn). sets_link l) (sym c.deref.ensures.value) ∙ c.may_be_linked-linked.ensures.links off)
 
 pub returns-in-Some-clause-ended : goal.returns-in-Some-clause-ended

@@ -3,8 +3,8 @@ use Rattle.std.specs.Vec.{vec_len}
 use Rattle.mc_box.specs.BoxEvents.{is_enabled}
 use Rattle.mc_box.specs.Boxes.{BoxState}
 use Rattle.mc_box.specs.declared.event.Event.TheVariants.{Shift}
-use Rattle.mc_network.proofs.NetworkBoxes.{box_count}
-use Rattle.mc_network.specs.Networks.{world_in}
+use Rattle.mc_divided.proofs.NetworkBoxes.{box_count}
+use Rattle.mc_divided.specs.Networks.{world_in}
 use Rattle.mc_rounds.proofs.Since.{shifts_past}
 use Rattle.mc_rounds.proofs.shifting.can_shift_at.Goals as goal
 

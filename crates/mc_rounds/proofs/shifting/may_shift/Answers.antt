@@ -1,4 +1,4 @@
-use Rattle.mc_network.specs.Networks.{network_state}
+use Rattle.mc_divided.specs.Networks.{network_state}
 use Rattle.mc_rounds.proofs.Since.{still_none, still_shifted}
 use Rattle.mc_rounds.proofs.shifting.may_shift.Goals as goal
 

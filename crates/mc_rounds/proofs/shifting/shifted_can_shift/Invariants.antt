@@ -1,7 +1,7 @@
 use Rattle.std.proofs.Common.{◌≡◌, ◌<◌, ℕ, IsTrue, Some, slice_get}
 use Rattle.mc_box.specs.BoxEvents.{is_shift}
 use Rattle.mc_box.specs.declared.event.Turn.{Turn}
-use Rattle.mc_network.specs.Networks.{world_in}
+use Rattle.mc_divided.specs.Networks.{world_in}
 use Rattle.mc_rounds.specs.Since.{ShiftsNone}
 use Rattle.mc_rounds.proofs.shifting.shifted_can_shift.Given as goal
 

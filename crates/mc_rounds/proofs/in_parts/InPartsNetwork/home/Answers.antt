@@ -1,6 +1,6 @@
 use Rattle.std.proofs.Common.{◌≡◌, ◌<◌, ◌∙◌, length, ap, sym, subst, arith}
 use Rattle.mc_model.specs.Worlds.{WorldState, box_at}
-use Rattle.mc_network.proofs.NetworkBoxes.{box_count}
+use Rattle.mc_divided.proofs.NetworkBoxes.{box_count}
 use Rattle.mc_rounds.proofs.in_parts.InPartsNetwork.home.Goals as goal
 
 pub box_of-requires-clause-here : goal.box_of-requires-clause-here

@@ -1,7 +1,7 @@
 use Rattle.std.proofs.Common.{◌≤◌, ◌^◌, length, subst, arith}
 use Rattle.mc_model.specs.Sound.{IsSound}
 use Rattle.mc_model.specs.Worlds.{WorldState, slot_count}
-use Rattle.mc_network.specs.Networks.{channels_of, world_in}
+use Rattle.mc_divided.specs.Networks.{channels_of, world_in}
 use Rattle.mc_rounds.proofs.in_parts.InPartsNetwork.keeps.Goals as goal
 
 pub returns-clause-sound : goal.returns-clause-sound

@@ -1,6 +1,6 @@
 use Rattle.std.proofs.Common.{◌≡◌, ◌∙◌, length, ap}
 use Rattle.mc_model.specs.Worlds.{WorldState, slot_count}
-use Rattle.mc_network.specs.Networks.{channels_of}
+use Rattle.mc_divided.specs.Networks.{channels_of}
 use Rattle.mc_rounds.proofs.in_parts.InPartsNetwork.slot_count.Goals as goal
 
 pub returns : goal.returns

@@ -1,6 +1,6 @@
 use Rattle.std.proofs.Common.{◌<◌, List, ℕ, length, subst, sym}
 use Rattle.mc_model.specs.Worlds.{WorldState, slot_count}
-use Rattle.mc_world.proofs.CutLanes.{put_runs}
+use Rattle.mc_world.proofs.PieceLanes.{put_runs}
 use Rattle.mc_world.proofs.network.engine.Engine.put_last.Goals as goal
 
 pub invariant_of-self : goal.invariant_of-self

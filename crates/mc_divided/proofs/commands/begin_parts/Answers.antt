@@ -1,0 +1,16 @@
+use Rattle.std.proofs.Common.{◌∙◌, sym, arith}
+use Rattle.mc_divided.specs.Commanding.{HasBegunSettle}
+use Rattle.mc_divided.proofs.Changed.{all_changed, next_changed}
+use Rattle.mc_divided.proofs.Lists.{there_at}
+use Rattle.mc_divided.proofs.commands.begin_parts.Goals as goal
+
+pub begin_part-requires : goal.begin_part-requires
+begin_part-requires c =
+    c.requires c.loop-place.place _ (sym (c.loop-place.invariant.rest c.loop-place.place (omega arith)) ∙ there_at c.loop-place.runs c.loop-place.place c.index-runs-place.result (omega arith))
+
+pub loop-place-preserved : goal.loop-place-preserved
+loop-place-preserved c =
+    next_changed HasBegunSettle c.loop-place.place c.args.runs.now c.loop-place.runs _ c.begin_part.new.run (there_at c.loop-place.runs c.loop-place.place c.index-runs-place.result (omega arith)) c.begin_part.ensures c.loop-place.invariant
+
+pub returns : goal.returns
+returns c = all_changed HasBegunSettle c.loop-place.place c.args.runs.now c.loop-place.runs (omega arith) c.loop-place.invariant

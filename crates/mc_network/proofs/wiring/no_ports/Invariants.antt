@@ -1,6 +1,0 @@
-use Rattle.std.proofs.Common.{◌≡◌, [], replicate}
-use Rattle.mc_part.specs.Cutting.{inner_lists}
-use Rattle.mc_network.proofs.wiring.no_ports.Given as goal
-
-abbrev pub invariant-loop-done : goal.invariant-loop-done
-invariant-loop-done l = inner_lists l.ports.items ≡ replicate l._done []
