@@ -13,7 +13,7 @@ use mc_io::OpenGate;
 use mc_plan::{BoxPlan, Plan};
 use mc_rounds::settle_rounds;
 use mc_rule::Program;
-use mc_seq::{SettleFault, fits, settle_one, settle_plainly};
+use mc_seq::{SettleFault, fits, settle_one};
 use mc_signal::Medium;
 use mc_slot::{Goal, State};
 use mc_text::Draws;
@@ -81,15 +81,6 @@ fn by_counts(alloc: Global, world: World, batch: &[Turn], state: u32) -> Outcome
         return ended(alloc, Ending::Refused, state);
     }
     let settled = settle_one(alloc, world, batch, &mut draws);
-    outcome_of(alloc, settled, draws.state)
-}
-
-fn by_lists(alloc: Global, world: World, batch: &[Turn], state: u32) -> Outcome {
-    let mut draws = Draws { state };
-    if !fits(&world, batch) {
-        return ended(alloc, Ending::Refused, state);
-    }
-    let settled = settle_plainly(alloc, world, batch, &mut draws);
     outcome_of(alloc, settled, draws.state)
 }
 
@@ -414,49 +405,4 @@ pub fn programmed_case(alloc: Global, seed: u32) -> Result<Case, TestFault> {
         batch,
         state,
     })
-}
-
-// Both settles of one case, which is drawn twice, come to the same.
-fn compared(rt: &impl Abort, alloc: Global, case: Case, again: Case) -> Outcome {
-    let fast = by_counts(alloc, case.world, &case.batch, case.state);
-    let plain = by_lists(alloc, again.world, &again.batch, again.state);
-    comes_to(rt, &fast, plain.ending, &plain.turns, plain.draws);
-    fast
-}
-
-#[test]
-fn settles_are_the_plain_ones(rt: HostRuntime) -> Result<(), TestFault> {
-    let alloc = rt.alloc();
-    for seed in 0..2_000 {
-        let case = drawn_case(alloc, seed)?;
-        let again = drawn_case(alloc, seed)?;
-        let _ = compared(&rt, alloc, case, again);
-    }
-    Ok(())
-}
-
-#[test]
-fn settles_with_programs_are_the_plain_ones(rt: HostRuntime) -> Result<(), TestFault> {
-    let alloc = rt.alloc();
-    let mut restless = 0u32;
-    let mut shifted = 0u32;
-    for seed in 0..1_500 {
-        let case = programmed_case(alloc, seed)?;
-        let again = programmed_case(alloc, seed)?;
-        let done = compared(&rt, alloc, case, again);
-        if matches!(done.ending, Ending::Restless(_)) {
-            restless = restless.saturating_add(1);
-        }
-        if has_shift(&done.turns) {
-            shifted = shifted.saturating_add(1);
-        }
-    }
-    // programs went on, and some didn't come to rest
-    assert!(rt; 20 < restless);
-    assert!(rt; 500 < shifted);
-    Ok(())
-}
-
-fn has_shift(turns: &[Turn]) -> bool {
-    turns.iter().any(|turn| matches!(turn.event, Event::Shift))
 }

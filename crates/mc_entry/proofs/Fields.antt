@@ -32,12 +32,6 @@ ReadsCodec old new found = (codec : Option ℕ) (more : List ℕ) → old ≡ co
 abbrev pub Skips : ℕ → List ℕ → List ℕ → Type 0
 Skips count old new = (more : List ℕ) → old ≡ zeros count more → new ≡ more
 
-abbrev pub ReadsDescriptor : List ℕ → List ℕ → Descriptor → Type 0
-ReadsDescriptor old new found = (d : Descriptor) (more : List ℕ) → FitsDescriptor d → old ≡ descriptor_wire d more → (found ≡ d) × (new ≡ more)
-
-abbrev pub ReadsSelector : List ℕ → List ℕ → Selector → Type 0
-ReadsSelector old new found = (s : Selector) (more : List ℕ) → FitsSelector s → old ≡ selector_wire s more → (found ≡ s) × (new ≡ more)
-
 pub descriptor_read : (d : Descriptor) (more s0 s1 s2 s3 s4 s5 : List ℕ) (origin version addr port : ℕ) (codecs : CodecList)
     → FitsDescriptor d → ReadsWord4 s0 s1 origin → ReadsWord4 s1 s2 version → ReadsWord4 s2 s3 addr → ReadsWord2 s3 s4 port
     → ReadsCodecs s4 s5 codecs → s0 ≡ descriptor_wire d more

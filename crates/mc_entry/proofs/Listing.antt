@@ -102,18 +102,6 @@ sent_more items sent next more old new i found inside fits reads is so_far =
       both.1 ∙ ap (λ (n : ℕ). all_wire (drop n items) more) next_is,
     )
 
-drop_all : (items : List AtEnd) → drop (length items) items ≡ []
-drop_all [] = refl
-drop_all (x ∷ items) = drop_all items
-
--- and at last all
-pub sent_all : (items sent : List AtEnd) (more old : List ℕ) (count : ℕ) → length items ≡ count
-    → (sent ≡ take count items) × (old ≡ all_wire (drop count items) more) → (sent ≡ items) × (old ≡ more)
-sent_all items sent more old count long both = (
-  both.0 ∙ take_all count items (omega arith),
-  both.1 ∙ ap (λ (l : List AtEnd). all_wire l more) (ap (λ (n : ℕ). drop n items) (sym long) ∙ drop_all items),
-)
-
 pub fits_more : (sent : List AtEnd) (one : AtEnd) → AllByRecursion FitsAt sent → FitsAt one → AllByRecursion FitsAt (sent ++ one ∷ [])
 fits_more [] one fits last = (last, tt)
 fits_more (x ∷ sent) one fits last = (fits.0, fits_more sent one fits.1 last)

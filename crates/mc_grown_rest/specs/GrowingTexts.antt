@@ -27,7 +27,8 @@ ShowsItsEnd d items =
     (world : WorldState) (plans : List StagePlan) → IsFirstWorld d world
     → ArePlansOf (batches_of d.commands) items plans → ComesToEnd (grown_from world) plans
 
--- a text declares a network and says what is to happen after the line `grow`, and shows that its script comes to its end
+-- a text declares a network and says what is to happen after the line `grow`, and shows that its script comes to its
+-- end
 abbrev pub CanGrow : List ℕ → Type 0
 CanGrow text = (d : Declared) × (t : TailState) × Says Grow text d × SaysTail text t × ShowsItsEnd d t.items
 

@@ -1,7 +1,7 @@
 -- A ladder line by line: what was drawn, and what is to be drawn of the lines that are left, are the whole ladder.
-use Rattle.std.proofs.Common.{◌≡◌, ◌<◌, ◌≤◌, ◌+◌, ◌++◌, ℕ, Bool, true, false, Option, List, [], ◌∷◌, drop, filter, length, ap, refl, subst, sym, ◌∙◌, append_assoc, append-nil, arith, if◌then◌else◌}
+use Rattle.std.proofs.Common.{◌≡◌, ◌<◌, ◌≤◌, ◌+◌, ◌++◌, ℕ, Bool, true, false, Option, List, [], ◌∷◌, drop, filter, length, ap, refl, sym, ◌∙◌, append_assoc, arith, if◌then◌else◌}
 use Rattle.std.proofs.Math.ListN.{get_or}
-use Rattle.std.proofs.lemmas.List.{drop_all, drop_more}
+use Rattle.std.proofs.lemmas.List.{drop_more}
 use Rattle.mc_box.specs.declared.event.Turn.{Turn}
 use Rattle.mc_cause.specs.Carried.{AreOfSlots, TellsCauses, WhysState}
 use Rattle.mc_model.specs.Worlds.{WorldState, slot_count}
@@ -96,11 +96,3 @@ line_more frame names blocks choice marks first journal old world next_world not
       few = few_more within i line (takes choice world count line) now.few;
       noted_few = omega (arith, notes.turns, now.noted_few);
     })
-
--- after the last line all is drawn
-pub all_drawn : (frame : FrameState) (names : NameLists) (blocks : List BlockState) (choice : ChoiceState) (marks : List Bool) (first : WorldState) (journal : List JournalLine) (old : List ℕ) (world : WorldState)
-    (noted : WhysState) (count : Count) (within i : ℕ) (drawn : List ℕ) → length journal ≤ i
-    → IsDrawn frame names blocks choice marks first journal old world noted count within i drawn → drawn ≡ old ++ rows_of frame names blocks choice marks 0 (chosen choice first journal)
-all_drawn frame names blocks choice marks first journal old world noted count within i drawn past now =
-    sym (append-nil drawn)
-    ∙ (ap (λ (lines : List JournalLine). drawn ++ left_to_draw frame names blocks choice marks first now.made world count within lines) (sym (drop_all i journal past)) ∙ now.rows)

@@ -1,4 +1,5 @@
--- A whole ladder: for each turn of a journal that is drawn its row, and for each settle its paths, in the order of the journal.
+-- A whole ladder: for each turn of a journal that is drawn its row, and for each settle its paths, in the order of the
+-- journal.
 use Rattle.std.specs.Prelude.{ℕ, ◌+◌, ◌%◌, ◌==◌, Bool, if◌then◌else◌, List, [], ◌∷◌, ◌++◌, codes, Option}
 use Rattle.std.specs.Fmt.{decimal}
 use Rattle.mc_model.specs.Worlds.{WorldState}
@@ -35,8 +36,8 @@ within_after within Settled = 0
 abbrev pub label_of : (closings : List Bool) → (number : ℕ) → Label
 label_of closings number = record { number = number; closing = is_marked closings number }
 
--- what is drawn for a line, after so many turns of its settle, where it is known which turns are marked, and why all slots
--- are closed
+-- what is drawn for a line, after so many turns of its settle, where it is known which turns are marked, and why all
+-- slots are closed
 abbrev pub line_rows : FrameState → NameLists → List BlockState → ChoiceState → (closings : List Bool) → WorldState
     → (whys : List (Option ℕ)) → Count → (within : ℕ) → JournalLine → List ℕ
 line_rows frame names blocks choice closings world whys count within (Made turn) =
@@ -60,7 +61,8 @@ rows_of frame names blocks choice closings within (entry ∷ entries) =
 -- how many turns are drawn, of how many, where it may not be all
 abbrev pub count_line : ChoiceState → SurveyState → List ℕ
 count_line choice found =
-    if is_whole choice then [] else line_of (decimal found.drawn ∷ codes "of" ∷ decimal found.turns ∷ codes "turns" ∷ [])
+    if is_whole choice then []
+    else line_of (decimal found.drawn ∷ codes "of" ∷ decimal found.turns ∷ codes "turns" ∷ [])
 
 -- the frame for what is drawn
 abbrev pub drawn_frame : Style → NameLists → WorldState → ChoiceState → SurveyState → FrameState

@@ -30,8 +30,8 @@ path_row style columns names world view = route_lanes style columns world view +
 abbrev pub bare_row : FrameState → List ℕ → List ℕ
 bare_row frame line = cells frame.style Blank MARGIN ++ bare_lanes frame.style (length frame.columns) ++ line
 
--- what is told of both ends of a path: who hears what, where it flows, and else from which turn the close came by which each
--- became closed
+-- what is told of both ends of a path: who hears what, where it flows, and else from which turn the close came by which
+-- each became closed
 abbrev pub end_rows : FrameState → NameLists → (flowing : Bool) → List (Option ℕ) → PathView → List ℕ
 end_rows frame names true whys view =
     bare_row frame (hearing_line names view.low) ++ bare_row frame (hearing_line names view.high)
@@ -51,7 +51,8 @@ titled_rule frame number =
 abbrev pub rule_row : FrameState → List ℕ
 rule_row frame = rule_lanes frame.style (length frame.columns) ++ 10 ∷ []
 
--- a settle of a world, with its number: these paths, each once, in their order. Why all slots are closed is told by a list
+-- a settle of a world, with its number: these paths, each once, in their order. Why all slots are closed is told by a
+-- list
 abbrev pub settle_rows : FrameState → NameLists → WorldState → List (Option ℕ) → List PathView → (number : ℕ) → List ℕ
 settle_rows frame names world whys views number =
     titled_rule frame number ++ flat_map (path_rows frame names world whys) views ++ rule_row frame

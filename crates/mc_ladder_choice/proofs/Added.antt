@@ -15,9 +15,6 @@ pub one_more : (boxes next others : List ℕ) (i who : ℕ) (whole : List ℕ) �
 one_more boxes next others i who whole below is now =
     ap (λ (b : List ℕ). with_all_new b (drop (i + 1) others)) is ∙ (ap (with_all_new boxes) (sym (drop_more others i who below)) ∙ now)
 
-pub all_added : (boxes others : List ℕ) (i : ℕ) (whole : List ℕ) → length others ≤ i → with_all_new boxes (drop i others) ≡ whole → boxes ≡ whole
-all_added boxes others i whole past now = ap (with_all_new boxes) (sym (drop_all i others past)) ∙ now
-
 -- the boxes of one thing more
 pub given_more : {X : Type 0} (f : X → List ℕ) (boxes next : List ℕ) (xs : List X) (i : ℕ) (x : X) (whole : List ℕ) → i < length xs → get_or xs i x ≡ x → next ≡ with_all_new boxes (f x)
     → with_all_new boxes (flat_map f (drop i xs)) ≡ whole → with_all_new next (flat_map f (drop (i + 1) xs)) ≡ whole

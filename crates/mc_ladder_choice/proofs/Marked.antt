@@ -1,6 +1,6 @@
 -- Marks that are set for numbers, one after another.
-use Rattle.std.proofs.Common.{◌≡◌, ◌≢◌, ◌⊎◌, inl, inr, eq-eqb, ne_eqb, ◌<◌, ◌≤◌, ◌+◌, ◌==◌, ◌||◌, ◌∙◌, ◌++◌, ℕ, Bool, true, false, Option, None, Some, List, [], ◌∷◌, length, map, refl, ap, sym, append-nil, append_assoc, flat_map, take, subst, arith}
-use Rattle.std.specs.List.{cons_option, list_any, range_with_len}
+use Rattle.std.proofs.Common.{◌≡◌, ◌≢◌, ◌⊎◌, inl, inr, eq-eqb, ne_eqb, ◌<◌, ◌≤◌, ◌+◌, ◌==◌, ◌||◌, ◌∙◌, ◌++◌, ℕ, Bool, true, false, Option, None, Some, List, [], ◌∷◌, length, refl, ap, sym, append-nil, append_assoc, flat_map, take, subst, arith}
+use Rattle.std.specs.List.{cons_option, list_any}
 use Rattle.std.proofs.Math.ListN.{get_or, set}
 use Rattle.std.proofs.lemmas.List.{get_or-set_other, get_or-set_same, length-set, same_lists}
 use Rattle.std.proofs.lemmas.Bool.{cases_eq}

@@ -1,7 +1,7 @@
 -- A journal that is looked through line by line.
-use Rattle.std.proofs.Common.{◌≡◌, ◌<◌, ◌≤◌, ◌+◌, ◌∙◌, ◌&&◌, ◌++◌, ℕ, suc, Bool, true, false, Option, List, [], ◌∷◌, drop, filter, flat_map, length, ap, refl, subst, sym, append-nil, append_assoc, arith, if◌then◌else◌}
+use Rattle.std.proofs.Common.{◌≡◌, ◌<◌, ◌≤◌, ◌+◌, ◌∙◌, ◌&&◌, ◌++◌, ℕ, suc, Bool, true, false, Option, List, [], ◌∷◌, drop, filter, flat_map, length, ap, refl, subst, sym, append_assoc, arith, if◌then◌else◌}
 use Rattle.std.proofs.Math.ListN.{get_or}
-use Rattle.std.proofs.lemmas.List.{drop_all, drop_more}
+use Rattle.std.proofs.lemmas.List.{drop_more}
 use Rattle.mc_box.specs.declared.event.Turn.{Turn}
 use Rattle.mc_cause.specs.Carried.{AreOfSlots, TellsCauses, WhysState}
 use Rattle.mc_model.specs.Worlds.{WorldState, slot_count}
@@ -13,7 +13,7 @@ use Rattle.mc_ladder_choice.specs.Choices.{ChoiceState, chosen, is_chosen, takes
 use Rattle.mc_ladder_choice.specs.Closings.{AddsMarks, entry_closings, line_closings, marks_of}
 use Rattle.mc_ladder_choice.specs.Entries.{Entry, count_after, entries_from, entries_of, entry_at, first_count, made_after, whys_after, world_after}
 use Rattle.mc_ladder_choice.specs.Noted.{NotesLine}
-use Rattle.mc_ladder_choice.specs.Surveys.{SurveyState, drawn_boxes, entry_boxes, is_turn, survey_of, turns_among}
+use Rattle.mc_ladder_choice.specs.Surveys.{drawn_boxes, entry_boxes, is_turn, turns_among}
 use Rattle.mc_ladder_choice.proofs.Added.{new_append}
 use Rattle.mc_ladder_choice.proofs.Noting.{whys_are}
 
@@ -172,21 +172,3 @@ line_more choice first journal world next_world noted next_noted count next_coun
       passed = passed_more first now.made world next_world noted next_noted count line i drawn next_drawn notes (at_most_one drawn next_drawn (is_turn line) taken adds) now.passed;
       found = rw made (found_more choice first journal now.made world count i default taken drawn next_drawn boxes next_boxes marks next_marks below is adds adds_boxes marks_now now.found);
     })
-
--- after the last line all is found
-pub all_found : (choice : ChoiceState) (first : WorldState) (journal : List JournalLine) (world : WorldState) (noted : WhysState) (count : Count) (i drawn : ℕ) (boxes : List ℕ) (marks : List Bool) (found : SurveyState)
-    → length journal ≤ i → found ≡ record { drawn = drawn; turns = count.turns; boxes = boxes; closings = marks }
-    → IsSurveyed choice first journal world noted count i drawn boxes marks → found ≡ survey_of choice first journal
-all_found choice first journal world noted count i drawn boxes marks found past is now =
-    let none = sym (drop_all i journal past) in
-    let so_many = ap (λ (lines : List JournalLine). drawn + turns_among (left choice first now.made world count lines)) none ∙ now.found.so_many in
-    let of_all = ap (λ (lines : List JournalLine). count.turns + turns_among (entries_from first now.made world count lines)) none ∙ now.found.of_all in
-    let boxes_are = ap (λ (lines : List JournalLine). with_all_new boxes (flat_map (entry_boxes choice) (left choice first now.made world count lines))) none ∙ now.found.boxes_are in
-    let names = sym (append-nil now.found.named) ∙ (ap (λ (lines : List JournalLine). now.found.named ++ flat_map (entry_closings choice) (left choice first now.made world count lines)) none ∙ now.found.names) in
-    let marks_are = now.found.marked ∙ ap (marks_of (length journal + 1)) names in
-    let d : drawn ≡ turns_among (chosen choice first journal) = omega (arith, so_many) in
-    let t : count.turns ≡ turns_among (entries_of first journal) = omega (arith, of_all) in
-    is ∙ (ap (λ (k : ℕ). record { drawn = k; turns = count.turns; boxes = boxes; closings = marks }) d
-    ∙ (ap (λ (k : ℕ). record { drawn = turns_among (chosen choice first journal); turns = k; boxes = boxes; closings = marks }) t
-    ∙ (ap (λ (l : List ℕ). record { drawn = turns_among (chosen choice first journal); turns = turns_among (entries_of first journal); boxes = l; closings = marks }) boxes_are
-    ∙ ap (λ (l : List Bool). record { drawn = turns_among (chosen choice first journal); turns = turns_among (entries_of first journal); boxes = with_all_new choice.boxes (flat_map (entry_boxes choice) (chosen choice first journal)); closings = l }) marks_are)))

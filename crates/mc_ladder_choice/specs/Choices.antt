@@ -13,7 +13,8 @@ use Rattle.mc_ladder_choice.specs.declared.count.Count.{Count}
 use Rattle.mc_ladder_choice.specs.Boxes.{is_among, path_boxes, turn_boxes}
 use Rattle.mc_ladder_choice.specs.Entries.{Entry, entries_of}
 
--- the settles of which something is drawn, where not of all, and the boxes that are asked for; none are where all is drawn
+-- the settles of which something is drawn, where not of all, and the boxes that are asked for; none are where all is
+-- drawn
 pub record ChoiceState : Type 0 where
   pub settles : Option Span
   pub boxes : List ℕ

@@ -8,8 +8,8 @@ use Rattle.mc_view.specs.declared.PathView.{PathView}
 use Rattle.mc_ladder_choice.specs.Choices.{ChoiceState, shown_paths}
 use Rattle.mc_ladder_choice.specs.Entries.{Entry}
 
--- the turns that a path names, by the list of why all slots are closed: that of each of its ends, where it doesn't flow; an
--- end that was never open has none
+-- the turns that a path names, by the list of why all slots are closed: that of each of its ends, where it doesn't
+-- flow; an end that was never open has none
 abbrev pub path_closings : List (Option ℕ) → (flowing : Bool) → PathView → List ℕ
 path_closings whys true view = []
 path_closings whys false view =

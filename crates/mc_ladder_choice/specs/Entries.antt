@@ -57,8 +57,8 @@ whys_after first made slots = map (why first made) (range_with_len 0 slots)
 abbrev pub entry_at : WorldState → List (Option ℕ) → Count → JournalLine → Entry
 entry_at world whys count line = record { world = world; whys = whys; count = count; line = line }
 
--- the entries of these lines, in a world and after so many turns and settles, of which these turns were made, from the first
--- world on
+-- the entries of these lines, in a world and after so many turns and settles, of which these turns were made, from the
+-- first world on
 abbrev pub entries_from : (first : WorldState) → List Turn → WorldState → Count → List JournalLine → List Entry
 entries_from first made world count [] = []
 entries_from first made world count (line ∷ lines) =

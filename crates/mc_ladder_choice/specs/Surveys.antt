@@ -10,8 +10,8 @@ use Rattle.mc_ladder_choice.specs.Closings.{entry_closings, marks_of}
 use Rattle.mc_ladder_choice.specs.Entries.{Entry, entries_of}
 
 -- how many turns of a journal are drawn, and how many it has; the boxes that are asked for, and after them those that
--- take part in what is drawn with them; and of each turn, by its number from 1, whether a closed path that is drawn names
--- it
+-- take part in what is drawn with them; and of each turn, by its number from 1, whether a closed path that is drawn
+-- names it
 pub record SurveyState : Type 0 where
   pub drawn : ℕ
   pub turns : ℕ

@@ -1,11 +1,10 @@
 -- What is under way to a slot: what a lane has for one of its tunnels, signal by signal.
-use Rattle.std.proofs.Common.{◌≡◌, ◌<◌, ◌≤◌, ◌+◌, ◌*◌, ◌%◌, ◌==◌, ◌++◌, ◌∙◌, ℕ, zero, suc, Bool, true, false, if◌then◌else◌, List, ◌∷◌, drop, length, flat_map, refl, ap, sym, append_assoc, append-nil, arith}
+use Rattle.std.proofs.Common.{◌≡◌, ◌<◌, ◌≤◌, ◌+◌, ◌*◌, ◌%◌, ◌==◌, ◌++◌, ◌∙◌, ℕ, Bool, true, false, if◌then◌else◌, List, ◌∷◌, drop, length, flat_map, refl, ap, sym, append_assoc, append-nil}
 use Rattle.std.proofs.Math.ListN.{get_or}
 use Rattle.std.proofs.lemmas.List.{drop_all, drop_more}
 use Rattle.mc_signal.specs.declared.Signal.{Signal}
 use Rattle.mc_signal.specs.declared.Tagged.{Tagged}
-use Rattle.mc_model.specs.Worlds.{WorldState, for_tunnel, lane_of, tunnel_of}
-use Rattle.mc_world.specs.Lanes.{lane_number}
+use Rattle.mc_model.specs.Worlds.{for_tunnel}
 
 -- what is told so far, and what is left of the lane, are all
 abbrev pub IsTold : (f : Signal → List ℕ) (tunnel : ℕ) (lane : List Tagged) (start told : List ℕ) (i : ℕ) → Type 0
@@ -43,11 +42,3 @@ all_told f tunnel lane start told i past so_far =
     sym (append-nil told) ∙ (ap (λ (l : List Tagged). told ++ flat_map f (for_tunnel tunnel l)) (sym (drop_all i lane past)) ∙ so_far)
 
 -- ---- the lane of a slot
-
-side_is : (rest : ℕ) → rest < 2 → (if rest == 0 then 0 else 1) ≡ rest
-side_is zero few = refl
-side_is (suc zero) few = refl
-side_is (suc (suc rest)) few = omega (arith, few)
-
-pub lane_is : (world : WorldState) (s : ℕ) → lane_number (tunnel_of world s).channel (s % 2 == 0) ≡ lane_of world s
-lane_is world s = ap (λ (side : ℕ). 2 * (tunnel_of world s).channel + side) (side_is (s % 2) (omega arith))

@@ -92,11 +92,6 @@ changed_same old cells start told at cell below here same so_far =
     let left : changes_text (changes_from old at (drop at cells)) ≡ rest = left_is old cells at cell below here ∙ ap (λ (l : List ℕ). l ++ rest) none in
     ap (λ (l : List ℕ). told ++ l) (sym left) ∙ so_far
 
-pub all_changed : (old cells : List (List ℕ)) (start told : List ℕ) (at : ℕ) → length cells ≤ at → IsChanged old cells start told at
-    → told ≡ start ++ changes_text (changes_from old 0 cells)
-all_changed old cells start told at past so_far =
-    sym (append-nil told) ∙ (ap (λ (l : List (List ℕ)). told ++ changes_text (changes_from old at l)) (sym (drop_all at cells past)) ∙ so_far)
-
 -- ---- lines
 
 -- before a line of a journal: the rest gives what the whole gives, and no number passes that of the lines

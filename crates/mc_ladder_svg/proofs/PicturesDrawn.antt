@@ -1,7 +1,7 @@
 -- A picture line by line: what is drawn, and what is to be drawn of the lines that are left, are all.
-use Rattle.std.proofs.Common.{◌≡◌, ◌<◌, ◌≤◌, ◌+◌, ◌*◌, ◌^◌, ◌++◌, ◌∙◌, ℕ, Option, Bool, true, false, List, [], ◌∷◌, drop, filter, length, ap, refl, sym, append_assoc, append-nil, subst, arith, if◌then◌else◌}
+use Rattle.std.proofs.Common.{◌≡◌, ◌<◌, ◌≤◌, ◌+◌, ◌*◌, ◌^◌, ◌++◌, ◌∙◌, ℕ, Option, Bool, true, false, List, [], ◌∷◌, drop, filter, length, ap, refl, sym, append_assoc, arith, if◌then◌else◌}
 use Rattle.std.proofs.Math.ListN.{get_or}
-use Rattle.std.proofs.lemmas.List.{drop_all, drop_more}
+use Rattle.std.proofs.lemmas.List.{drop_more}
 use Rattle.mc_box.specs.declared.event.Turn.{Turn}
 use Rattle.mc_cause.specs.Carried.{AreOfSlots, TellsCauses, WhysState}
 use Rattle.mc_ladder_choice.specs.Choices.{ChoiceState, chosen, is_chosen, takes}
@@ -111,16 +111,6 @@ line_more columns names blocks choice marks first journal old world next_world n
       rows = rw (drawn_now, made, lower) (append_assoc drawn _ _ ∙ (ap (λ (l : List ℕ). drawn ++ l) (sym more) ∙ rows_now));
       end = rw (made, lower) (sym ends ∙ end_now);
     })
-
--- after the last line all is drawn
-pub all_drawn : (columns : List ℕ) (names : NameLists) (blocks : List BlockState) (choice : ChoiceState) (marks : List Bool) (first : WorldState) (journal : List JournalLine) (old : List ℕ) (world : WorldState)
-    (noted : WhysState) (count : Count) (y i : ℕ) (drawn : List ℕ) → length journal ≤ i → IsDrawn columns names blocks choice marks first journal old world noted count y i drawn
-    → (drawn ≡ old ++ rows_of columns names blocks choice marks first_y (chosen choice first journal)) × (y ≡ end_of choice first_y (chosen choice first journal))
-all_drawn columns names blocks choice marks first journal old world noted count y i drawn past now =
-    let none = sym (drop_all i journal past) in (
-      sym (append-nil drawn) ∙ (ap (λ (lines : List JournalLine). drawn ++ rows_of columns names blocks choice marks y (left choice first now.made world count lines)) none ∙ now.rows),
-      ap (λ (lines : List JournalLine). end_of choice y (left choice first now.made world count lines)) none ∙ now.end,
-    )
 
 -- the heads and the rows of a journal are its picture
 pub whole : (columns : List ℕ) (names : NameLists) (blocks : List BlockState) (world : WorldState) (choice : ChoiceState) (found : SurveyState) (journal : List JournalLine)

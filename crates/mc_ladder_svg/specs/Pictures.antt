@@ -1,4 +1,5 @@
--- A whole picture: for each turn of a journal that is drawn its row, and for each settle its paths, in the order of the journal.
+-- A whole picture: for each turn of a journal that is drawn its row, and for each settle its paths, in the order of the
+-- journal.
 use Rattle.std.specs.Prelude.{ℕ, ◌+◌, Bool, false, if◌then◌else◌, List, [], ◌∷◌, ◌++◌, codes, length, Option}
 use Rattle.std.specs.Fmt.{decimal}
 use Rattle.mc_model.specs.Worlds.{WorldState}
@@ -88,7 +89,8 @@ ladder_by columns names blocks world choice found journal =
     (end_of choice first_y (chosen choice world journal))
 
 -- the same by the survey
-abbrev pub surveyed_svg : NameLists → List BlockState → WorldState → ChoiceState → SurveyState → List JournalLine → List ℕ
+abbrev pub surveyed_svg : NameLists → List BlockState → WorldState → ChoiceState → SurveyState → List JournalLine
+    → List ℕ
 surveyed_svg names blocks world choice found journal =
     ladder_by (drawn_columns choice found names world) names blocks world choice found journal
 

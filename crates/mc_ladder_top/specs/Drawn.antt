@@ -44,8 +44,8 @@ drawn_bytes request names blocks world journal =
 abbrev pub IsInGrammar : List ℕ → Type 0
 IsInGrammar text = (d : Declared) × Says Journal text d
 
--- the output is the ladder of the journal that is asked for, with the network that the text declares and the blocks of its
--- programs
+-- the output is the ladder of the journal that is asked for, with the network that the text declares and the blocks of
+-- its programs
 pub record IsLadder (request : Requested) (text : List ℕ) (journal : List JournalLine) (output : List ℕ) : Type 0 where
   pub net : Net
   pub blocks : List BlockState

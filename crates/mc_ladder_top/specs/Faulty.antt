@@ -34,7 +34,8 @@ fault_note (Text style) number turn = journal_fault_line number turn
 fault_note Svg number turn = comment_of (journal_fault_line number turn)
 fault_note Page number turn = comment_of (journal_fault_line number turn)
 
--- the output is the ladder, as it is asked for, of the lines before the first fault, and then what is said of this fault
+-- the output is the ladder, as it is asked for, of the lines before the first fault, and then what is said of this
+-- fault
 pub record IsLadderUpToFault (request : Requested) (text : List ℕ) (number turn : ℕ) (output : List ℕ) : Type 0 where
   pub before : List JournalLine
   pub ladder : List ℕ

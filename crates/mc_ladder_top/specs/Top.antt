@@ -43,8 +43,8 @@ abbrev pub ToldBlocks : Option (List ℕ) → List BlockState → Type 0
 ToldBlocks told blocks = IfSome told (λ text. DeclaresBlocks Journal text blocks)
 
 -- the journal after a text is good, and what is asked for of its ladder was delivered: that of the names, the blocks of
--- programs and the first world that the text declares, and of the turns and settles that stand in the journal. The boxes
--- that are asked for are there
+-- programs and the first world that the text declares, and of the turns and settles that stand in the journal. The
+-- boxes that are asked for are there
 pub record Drew (request : Requested) (told old new : Option (List ℕ)) (status : ℕ) (journal : List JournalLine)
     : Type 0 where
   pub net : Net

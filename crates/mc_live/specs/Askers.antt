@@ -30,7 +30,8 @@ pub record HasPasses (desks : List Desk) (asker : Asker) : Type 0 where
   pub count : length asker.passes.items ≡ length desks
   pub each : (who : ℕ) (desk : Desk) (pass : Operator) → slice_get desks who ≡ Some desk
       → slice_get asker.passes.items who ≡ Some pass → IsOperatorOf desk pass
-  pub numbers : (who : ℕ) (pass : Operator) → slice_get asker.passes.items who ≡ Some pass → number_of pass ≡ asker.number
+  pub numbers : (who : ℕ) (pass : Operator) → slice_get asker.passes.items who ≡ Some pass
+      → number_of pass ≡ asker.number
 
 -- and has asked nothing yet
 pub record IsNewAsker (desks : List Desk) (asker : Asker) : Type 0 where

@@ -81,8 +81,8 @@ AreOwnTurns turns who log = (kind : Event → Bool) → of_kind kind who turns �
 
 -- ---- all boxes
 
--- these turns are a run from the world of the one team to that of the other, which is one again; and each box's own turns
--- are those of a log of which its course and its seat tell
+-- these turns are a run from the world of the one team to that of the other, which is one again; and each box's own
+-- turns are those of a log of which its course and its seat tell
 pub record IsFreeRun (channels : List ChannelState) (lanes : List LaneEnds) (ends : List (List ℕ))
     (old new : List Member) (free : List BoxRun) (turns : List Turn) : Type 0 where
   pub stand : StandForWorld channels new lanes ends
@@ -105,7 +105,8 @@ pub record IsFreeRun (channels : List ChannelState) (lanes : List LaneEnds) (end
       → (end tunnel : ℕ) → own.course.pace ≡ Stopped (Strange end tunnel) → ⊥
   -- the signals that were counted as taken are the Takes; and what was under way and was counted as sent is as much as
   -- what was counted as taken and is under way then
-  pub takes : sum_by (λ (own : BoxRun). taken_count own.seat) free ≡ count_by (λ (turn : Turn). is_take turn.event) turns
+  pub takes : sum_by (λ (own : BoxRun). taken_count own.seat) free
+      ≡ count_by (λ (turn : Turn). is_take turn.event) turns
   pub signals : under_way (world_of channels old lanes) + sum_by (λ (own : BoxRun). sent_count own.seat) free
       ≡ sum_by (λ (own : BoxRun). taken_count own.seat) free + under_way (world_of channels new lanes)
 

@@ -25,16 +25,6 @@ use Rattle.mc_replay.proofs.Lines.{after_both, may_both, turns_and_marks}
 use Rattle.mc_replay.proofs.Parts.{last_step, one_world}
 use Rattle.mc_replay.proofs.Prefixes.{after_is}
 
--- no line is read yet
-pub read_first : (Shows : WorldState → List PathView → Type 0) (batches : List (List Turn)) (replay : Replay) → IsFresh replay.segment.world batches replay → HasReplayed Shows replay.segment.world batches [] replay []
-read_first Shows batches replay fresh = record {
-  may = tt;
-  stands = fresh.stands;
-  turns = fresh.turns;
-  marks = fresh.settled;
-  views = λ more others shown. shown;
-}
-
 -- ---- one line more
 
 turns_more : (read : List JournalLine) (line : JournalLine) → turns_in (read ++ line ∷ []) ≡ turns_in read + turns_in (line ∷ [])

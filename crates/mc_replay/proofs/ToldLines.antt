@@ -7,28 +7,9 @@ use Rattle.mc_cause.proofs.Known.{run_count}
 use Rattle.mc_model.specs.Worlds.{WorldState}
 use Rattle.mc_script.specs.declared.command.JournalLine.{JournalLine}
 use Rattle.mc_script.specs.declared.command.JournalLine.TheVariants.{Turn as Made, Settled}
-use Rattle.mc_replay.specs.Replays.{IsFresh}
 use Rattle.mc_replay.specs.Told.{AddsWhys, AreTold, HasNoted, HasTold, KeepsPace, NotesMade, TellsLine, TellsWhys, told_of, turns_among}
 use Rattle.mc_replay.specs.declared.replay.Replay.{Replay}
 use Rattle.mc_replay.specs.declared.telling.Telling.{Telling}
-use Rattle.mc_replay.proofs.Reading.{begun_there}
-
--- no line is read yet
-pub told_first : (world : WorldState) (telling : Telling) (kept : WhysState) → telling.whys ≡ Some kept → told_of telling ≡ [] → AreOfSlots world kept → TellsCauses world [] world kept → HasTold world [] world telling
-told_first world telling kept asked none slots causes = record {
-  kept = kept;
-  asked = asked;
-  slots = slots;
-  causes = causes;
-  told = λ more others are. subst (λ (l : List (List (Option ℕ))). AreTold world [] more (l ++ others)) (sym none) are;
-}
-
--- the replay has made no turn either
-pub first_pace : (world : WorldState) (batches : List (List Turn)) (replay : Replay) (telling : Telling) → IsFresh world batches replay → HasTold world [] world telling → IfSome telling.whys (KeepsPace replay)
-first_pace world batches replay telling fresh told =
-    let same : world ≡ replay.segment.world = begun_there world batches replay fresh in
-    subst (λ (o : Option WhysState). IfSome o (KeepsPace replay)) (sym told.asked)
-    (record { slots = subst (λ (w : WorldState). AreOfSlots w told.kept) same told.slots; turns = told.causes.count ∙ sym fresh.turns })
 
 -- ---- one line more
 

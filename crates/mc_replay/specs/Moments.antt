@@ -39,7 +39,8 @@ abbrev pub with_present : Bool → QuietMoment → List QuietMoment → List Qui
 with_present is_one present moments = if is_one then moments ++ present ∷ [] else moments
 
 -- each moment is kept, and no other
-pub record AreMoments (world : WorldState) (batch turns : List Turn) (before : ℕ) (moments : List QuietMoment) : Type 0 where
+pub record AreMoments (world : WorldState) (batch turns : List Turn) (before : ℕ)
+    (moments : List QuietMoment) : Type 0 where
   pub each : (i : ℕ) → i < length moments
       → (moment : ℕ) × IsMoment world batch turns moment
       × IsKeptOf world turns before moment (slice_index_or moments i no_moment)

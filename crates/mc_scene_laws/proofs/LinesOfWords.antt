@@ -26,10 +26,6 @@ pub word_lines-append : (one two : List (List (List ℕ))) → AreWordLines one 
 word_lines-append [] two first second = second
 word_lines-append (some ∷ one) two first second = (first.0, word_lines-append one two first.1 second)
 
-pub word_lines-map : {A : Type 0} (f : A → List (List ℕ)) (xs : List A) → AllByRecursion (λ x. IsWordLine (f x)) xs → AreWordLines (map f xs)
-word_lines-map f [] each = tt
-word_lines-map f (x ∷ xs) each = (each.0, word_lines-map f xs each.1)
-
 is_line : (some : List (List ℕ)) → IsWordLine some → IsLine some
 is_line some good = line_of some good.1 good.0
 

@@ -1,5 +1,5 @@
 -- What a function gives for each number below a count.
-use Rattle.std.proofs.Common.{◌≡◌, ◌<◌, ◌+◌, ◌++◌, inl, inr, cond, ℕ, zero, suc, Bool, true, List, [], ◌∷◌, All, count_by, refl, ap, ◌∙◌, add-one, append_assoc, arith}
+use Rattle.std.proofs.Common.{◌≡◌, ◌<◌, ◌+◌, ◌++◌, inl, inr, cond, ℕ, zero, suc, Bool, true, List, [], ◌∷◌, All, count_by, refl, ap, ◌∙◌, arith}
 use Rattle.std.specs.List.{list_all}
 use Rattle.std.proofs.Math.ListN.{get_or}
 use Rattle.std.proofs.lemmas.Bool.{cases_eq}
@@ -10,10 +10,6 @@ use Rattle.mc_box.specs.declared.event.Turn.{Turn}
 use Rattle.mc_slot_laws.specs.Sums.{total}
 use Rattle.mc_seq.specs.ForEach.{for_each}
 use Rattle.mc_seq.proofs.Segments.{both_there}
-
--- what is given for one number more
-pub appended_more : (before now next : List Turn) (f : ℕ → List Turn) (n : ℕ) → now ≡ before ++ for_each f n → next ≡ now ++ f n → next ≡ before ++ for_each f (n + 1)
-appended_more before now next f n so_far more = rw (more, so_far, add-one) (append_assoc before (for_each f n) (f n))
 
 -- what holds of all that is given holds of the list
 pub each_all : (P : Turn → Type 0) (f : ℕ → List Turn) (n : ℕ) → ((t : ℕ) → t < n → All P (f t)) → All P (for_each f n)

@@ -1,5 +1,5 @@
 -- The Hear of a slot at the last version.
-use Rattle.std.proofs.Common.{◌≡◌, ◌&&◌, ◌<◌, inl, inr, nat_lt, ℕ, Bool, true, false, length, Option, Some, None, IsSome, IsTrue, IsFalse, refl, sym, ◌∙◌, subst}
+use Rattle.std.proofs.Common.{◌≡◌, ◌&&◌, ◌<◌, nat_lt, ℕ, true, length, Option, Some, None, IsSome, IsTrue, refl, sym, ◌∙◌, subst}
 use Rattle.std.proofs.lemmas.Bool.{and_parts}
 use Rattle.mc_box.specs.BoxEvents.{is_version_end}
 use Rattle.mc_box.specs.BoxShapes.{is_device}
@@ -9,10 +9,9 @@ use Rattle.mc_box.specs.declared.event.Event.TheVariants.{Take, Set, Media, Tell
 use Rattle.mc_box.specs.declared.event.MediaChange.TheVariants.{Hear, Talk}
 use Rattle.mc_box.specs.declared.event.Turn.{Turn}
 use Rattle.mc_model.specs.Sound.{IsSound}
-use Rattle.mc_model.specs.Steps.{ends_version, ends_version_at, step, heard_local}
+use Rattle.mc_model.specs.Steps.{ends_version, ends_version_at, heard_local}
 use Rattle.mc_model.specs.Worlds.{WorldState, box_at, number}
 use Rattle.mc_laws.proofs.Numbers.{box_inside, slot_inside}
-use Rattle.mc_seq.specs.Drawing.{MayCome}
 
 -- an event that ends a version is the Hear of a slot that is there
 local_by : (event : Event) (world : WorldState) (who : ℕ) → ends_version_at world who event ≡ true → (local : ℕ) × (heard_local event ≡ Some local) × (is_slot (box_at world who) local ≡ true)
@@ -51,15 +50,3 @@ hears_somewhere world turn local sound ends is none =
 some_none : (o : Option WorldState) → IsSome o → o ≡ None → ⊥
 some_none None some none = cc
 some_none (Some x) some none = cc
-
--- a test is not both true and false
-true_false : (b : Bool) → IsTrue b → IsFalse b → ⊥
-true_false true one two = cc
-true_false false one two = cc
-
--- a turn that may come isn't refused
-pub never_refused : (world : WorldState) (turn : Turn) → MayCome world turn → step world turn ≡ None → IsFalse (ends_version world turn) → ⊥
-never_refused world turn may none other = elim may [
-  | inl goes ↦ some_none (step world turn) goes none
-  | inr ends ↦ true_false (ends_version world turn) ends other
-]

@@ -1,6 +1,5 @@
 -- The next command of a box among those that are left, and these without it.
-use Rattle.std.proofs.Common.{◌≡◌, ◌+◌, ◌++◌, ◌==◌, ◌&&◌, not, cond, if◌then◌else◌, nat_lt, ℕ, suc, Bool, true, false, List, [], ◌∷◌, length, position, Option, Some, None, refl, ap, sym, ◌∙◌, arith}
-use Rattle.std.specs.List.{position_or_len, remove}
+use Rattle.std.proofs.Common.{◌≡◌, ◌+◌, ◌++◌, ◌==◌, ◌&&◌, cond, if◌then◌else◌, ℕ, Bool, true, false, List, [], ◌∷◌, length, Option, Some, refl, ap, ◌∙◌, arith}
 use Rattle.std.proofs.lemmas.Grind.{common_steps}
 use Rattle.mc_box.specs.declared.event.Turn.{Turn}
 use Rattle.mc_box.specs.BoxEvents.{is_command}
@@ -9,49 +8,10 @@ use Rattle.mc_seq.specs.Schedule.{next_of, without_next}
 
 -- ---- by place
 
--- what is removed one place further on, after a turn that stays
-at_by : (here : Bool) (t : Turn) (left less : List Turn) (n : ℕ) → remove left n ≡ less → remove (t ∷ left) (cond here 0 (suc n)) ≡ (if here then left else t ∷ less)
-at_by true t left less n is = refl
-at_by false t left less n is = ap (λ (turns : List Turn). t ∷ turns) is
-
--- the place of what is found, counted on
-len_by : (here : Bool) (n : ℕ) → cond (not here) (1 + n) 0 ≡ cond here 0 (suc n)
-len_by true n = refl
-len_by false n = omega arith
-
--- without the one at its place, or without any past the end
-removed_is : (who : ℕ) (left : List Turn) → remove left (position_or_len (λ t. t.who == who) left) ≡ without_next who left
-removed_is who [] = refl
-removed_is who (t ∷ left) =
-    let rest : ℕ = position_or_len (λ t. t.who == who) left in
-    ap (remove (t ∷ left)) (len_by (t.who == who) rest) ∙ at_by (t.who == who) t left (without_next who left) rest (removed_is who left)
-
--- of a list of one, the place that is found is 0
-found_place : (b : Bool) (n k : ℕ) → cond b (Some n) None ≡ Some k → n ≡ k
-found_place true n k is = cc
-found_place false n k is = absurd (cc)
-
--- to remove the turn at the place of a box's next command is to leave that one out
-pub removed_next : (who : ℕ) (left : List Turn) (k : ℕ) → position (λ t. t.who == who) left ≡ Some k → remove left k ≡ without_next who left
-removed_next who left k is =
-    ap (remove left) (sym (found_place (nat_lt (position_or_len (λ t. t.who == who) left) (length left)) (position_or_len (λ t. t.who == who) left) k is)) ∙ removed_is who left
-
--- a place that is found one further on is no longer the first
-past_by : (here : Bool) (n m : ℕ) → cond (nat_lt (cond (not here) (1 + n) 0) (suc m)) (Some (cond (not here) (1 + n) 0)) None ≡ None → (here ≡ false) × (cond (nat_lt n m) (Some n) None ≡ None)
-past_by true n m none = absurd (grind (arith, common_steps))
-past_by false n m none = (refl, grind (arith, common_steps))
-
 -- without a command of the box all stay
 kept_by : (here : Bool) (t : Turn) (left less : List Turn) → here ≡ false → less ≡ left → (if here then left else t ∷ less) ≡ t ∷ left
 kept_by true t left less is same = absurd (cc)
 kept_by false t left less is same = ap (λ (turns : List Turn). t ∷ turns) same
-
--- a box without a command leaves all
-pub without_none : (who : ℕ) (left : List Turn) → position (λ t. t.who == who) left ≡ None → without_next who left ≡ left
-without_none who [] none = refl
-without_none who (t ∷ left) none =
-    let parts = past_by (t.who == who) (position_or_len (λ t. t.who == who) left) (length left) none in
-    kept_by (t.who == who) t left (without_next who left) parts.0 (without_none who left parts.1)
 
 -- ---- one less
 

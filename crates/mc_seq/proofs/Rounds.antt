@@ -20,7 +20,7 @@ use Rattle.mc_seq.proofs.AllowedCommands.{all_kept}
 use Rattle.mc_seq.proofs.Candidates.{none_left}
 use Rattle.mc_seq.proofs.Retries.{boxes_besides, once_by_box}
 use Rattle.mc_seq.proofs.Runs.{run-append}
-use Rattle.mc_seq.proofs.Scheduled.{allowed_commands, drawn_both, drawn_commands, drawn_none, drawn_pass, drawn_run, drawn_takes, drawn_undue, is_ordered, rested_quiet}
+use Rattle.mc_seq.proofs.Scheduled.{allowed_commands, drawn_both, drawn_commands, drawn_pass, drawn_run, drawn_takes, drawn_undue, is_ordered, rested_quiet}
 use Rattle.mc_seq.proofs.Segments.{besides_both, besides_none, settled_at}
 
 -- ---- one after another
@@ -76,12 +76,6 @@ pub goes_pass : (rounds : ℕ) (p : Turn → Bool) (turns : List Turn) (now last
 goes_pass zero p turns now last all goes = drawn_pass p turns now last all goes
 goes_pass (suc rounds) p turns now last all (first, rest, still, next, are, drew, round, more) =
     goes_pass rounds p rest next last (ap (list_all p) (round_left still next round) ∙ drawn_pass p first now still all drew) more
-
--- where no command is left none is left later
-pub goes_none : (rounds : ℕ) (turns : List Turn) (now last : ScheduleState) → now.left ≡ [] → Goes rounds now turns last → last.left ≡ []
-goes_none zero turns now last none goes = drawn_none turns now last none goes
-goes_none (suc rounds) turns now last none (first, rest, still, next, are, drew, round, more) =
-    goes_none rounds rest next last (round_left still next round ∙ drawn_none first now still none drew) more
 
 -- retries hold no command
 owed_none : (world : WorldState) (who : ℕ) → commands_of who (retries_by_box world) ≡ []

@@ -269,10 +269,6 @@ place_is now draw count next shown total drawn state =
 pub place_low : (draw count all : ℕ) → count ≡ all → count ≢ 0 → draw % count < all
 place_low draw count all is some = subst (λ (n : ℕ). draw % count < n) is (grind (arith, common_steps))
 
--- the test whether nothing is left says no
-pub some_by : (b : Bool) (n : ℕ) → b ≡ (n == 0) → b ≡ false → n ≢ 0
-some_by b n is other same = grind (arith, common_steps)
-
 -- ---- the last version
 
 -- an event that is no Hear ends no version

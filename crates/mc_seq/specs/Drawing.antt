@@ -18,7 +18,6 @@ use Rattle.mc_seq.specs.declared.stopping.DrawOutcome.{DrawOutcome}
 use Rattle.mc_seq.specs.declared.stopping.DrawOutcome.TheVariants.{Drawn, Nothing, Shifted, VersionEnd}
 use Rattle.mc_seq.specs.declared.stopping.SettleStop.{SettleStop}
 use Rattle.mc_seq.specs.declared.stopping.SettleStop.TheVariants as stops
-use Rattle.mc_seq.specs.declared.plain.SettleSoFar.{SettleSoFar as PlainSoFar}
 
 -- a settle so far: its world and turns so far, the commands that are left, how many turns came since the last
 -- command or the beginning, how many Shifts each box may still make, and whether a round of retries is due
@@ -65,20 +64,6 @@ drawn_of so_far draws = drawn_at (so_far_of so_far) draws
 pub record IsKept (so_far : SettleSoFar) : Type 0 where
   pub commands : AreKeptFor so_far.settled.world so_far.left
   pub shifts : AreShiftsKept so_far.settled.world (commands_left so_far.left) so_far.shifts
-
--- the same for a settle that lists all candidates
-abbrev pub plain_so_far : PlainSoFar → SoFar
-plain_so_far so_far =
-    record {
-      settled = so_far.settled;
-      left = so_far.left.items;
-      since = so_far.since;
-      shifts = so_far.spare.items;
-      due = so_far.due;
-    }
-
-abbrev pub plain_drawn : PlainSoFar → ℕ → DrawnSoFar
-plain_drawn so_far draws = drawn_at (plain_so_far so_far) draws
 
 -- at the beginning
 abbrev pub first_drawn : WorldState → List Turn → ℕ → DrawnSoFar

@@ -77,9 +77,6 @@ at_eq a b same =
     let fields : (a.end, a.item.number, a.item.stamp, a.item.tunnel, a.item.signal) ≡ (b.end, b.item.number, b.item.stamp, b.item.tunnel, b.item.signal) = cc in
     ap (λ (t : ℕ × ℕ × ℕ × ℕ × Signal). record { end = t.0; item = record { number = t.1; stamp = t.2; tunnel = t.3; signal = t.4 } }) fields
 
-pub at_refl : (a : AtEnd) → is_same_at a a ≡ true
-at_refl a = (at_end_laws.laws-law).refl a
-
 -- lists with the same at each place
 pub same_by_get : (xs ys : List AtEnd) → length xs ≡ length ys → ((k : ℕ) → k < length xs → slice_get xs k ≡ slice_get ys k) → xs ≡ ys
 same_by_get [] [] long same = refl

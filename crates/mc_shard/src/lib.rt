@@ -16,5 +16,5 @@ mod taking;
 pub use entry::{AtEnd, Entry, Numbered};
 pub use laid::are_laid;
 pub use places::SlotPlaces;
-pub use refused::{Refused, ReplayFault};
+pub use refused::{Refused, ReplayRefused};
 pub use shard::Shard;

@@ -27,7 +27,7 @@ pub enum Refused {
 
 /// The first entry of a journal that a shard doesn't make again, by its place in the journal, from 0 on, and why.
 #[derive(Clone, Copy, PartialEq, Eq, Debug)]
-pub struct ReplayFault {
+pub struct ReplayRefused {
     pub index: usize,
     pub why: Refused,
 }

@@ -10,7 +10,7 @@ use crate::acting::is_take;
 use crate::entry::{AtEnd, Entry};
 use crate::limit::LAST_STAMP;
 use crate::parts::ShardParts;
-use crate::refused::{Refused, ReplayFault};
+use crate::refused::{Refused, ReplayRefused};
 use mc_box::Event;
 use mc_lane::Lane;
 use std::alloc::Global;
@@ -144,7 +144,7 @@ impl ShardParts {
     }
 
     /// A journal made again, as `Shard::replay` says.
-    pub fn replay(&mut self, alloc: Global, journal: &[Entry]) -> Result<(), ReplayFault>
+    pub fn replay(&mut self, alloc: Global, journal: &[Entry]) -> Result<(), ReplayRefused>
         requires { IsShaped (shard_of self.old) }
         ensures shaped { IsShaped (shard_of self.new) }
         ensures is { OnOk result (IsJournal self.old.places.items (shard_of self.old).state journal.now) }
@@ -155,7 +155,7 @@ impl ShardParts {
     {
         for (index, entry) in journal.iter().enumerate() {
             if let Err(why) = self.replay_one(alloc, entry) {
-                return Err(ReplayFault { index, why });
+                return Err(ReplayRefused { index, why });
             }
         }
         Ok(())

@@ -9,7 +9,7 @@ ghost use Rattle.mc_shard.specs.declared.limit.TheConstants.{SENT_LIMIT};
 use crate::entry::{AtEnd, Entry};
 use crate::parts::ShardParts;
 use crate::places::SlotPlaces;
-use crate::refused::{Refused, ReplayFault};
+use crate::refused::{Refused, ReplayRefused};
 use mc_box::{Event, MediaBox};
 use std::alloc::{AllocError, Global};
 use std::marker::Model;
@@ -110,7 +110,7 @@ impl Shard {
 
     /// The shard after a journal: each entry is made again and compared. Where the boxes make another entry, or memory
     /// runs out, the shard is gone, and the fault says at which entry.
-    pub fn replay(self, alloc: Global, journal: &[Entry]) -> Result<Shard, ReplayFault>
+    pub fn replay(self, alloc: Global, journal: &[Entry]) -> Result<Shard, ReplayRefused>
         ensures is { IfOk result (λ after. IsJournal self.places self.state journal.now) }
         ensures after { IfOk result (λ after. after
             ≡ record self { state = state_after self.state journal.now }) }

@@ -1,7 +1,7 @@
 // What stops a test.
 
 use mc_entry::EntryFault;
-use mc_shard::{Refused, ReplayFault};
+use mc_shard::{Refused, ReplayRefused};
 use std::alloc::AllocError;
 
 /// Why a shard isn't made, or makes no turn.
@@ -14,7 +14,7 @@ pub enum TestFault {
     /// A signal was taken already.
     Had,
     /// An entry isn't made again.
-    Replay(ReplayFault),
+    Replay(ReplayRefused),
     /// Bytes are no entry's, or memory ran out.
     Read(EntryFault),
     NoMemory(AllocError),
@@ -26,8 +26,8 @@ impl From<Refused> for TestFault {
     }
 }
 
-impl From<ReplayFault> for TestFault {
-    fn from(e: ReplayFault) -> Self {
+impl From<ReplayRefused> for TestFault {
+    fn from(e: ReplayRefused) -> Self {
         TestFault::Replay(e)
     }
 }

@@ -14,7 +14,8 @@ TellsUsed world slot (NoMemory e) = Unit {0}
 
 -- a join or cut is refused at this slot of the network
 abbrev pub IsRefused : GrownState → Growth → GrowthFault → Type 0
-IsRefused network growth (InUse used) = RefusesGrowth network growth used.at × (used.place ≡ place network.world used.at)
+IsRefused network growth (InUse used) =
+    RefusesGrowth network growth used.at × (used.place ≡ place network.world used.at)
 IsRefused network growth (NoMemory e) = Unit {0}
 
 -- several joins and cuts are cut short there, and the slot's place is that in the network that all of them make

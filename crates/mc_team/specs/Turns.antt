@@ -26,8 +26,8 @@ pub record HasEndsOf (worker other : Worker) : Type 0 where
   pub inboxes : other.inboxes ≡ worker.inboxes
   pub outboxes : other.outboxes ≡ worker.outboxes
 
--- a box has made turns: these entries lead from its worker as it began, with whatever commands and with no stamp, to its
--- worker now; they are all that it logged, and few enough for their numbers to fit
+-- a box has made turns: these entries lead from its worker as it began, with whatever commands and with no stamp, to
+-- its worker now; they are all that it logged, and few enough for their numbers to fit
 pub record HasWorked (old ran : Member) (before : Worker) (log : List Claimed) : Type 0 where
   pub ends : HasEndsOf old.worker before
   pub stamp : before.stamp ≡ 0

@@ -19,7 +19,8 @@ draws_state None = None
 draws_state (Some draws) = Some draws.state
 
 -- the schedule stops so within a batch, after these turns
-abbrev pub StopsBy : SettleStop → WorldState → (batch : List Turn) → (state : ℕ) → (turns : List Turn) → (end : ℕ) → Type 0
+abbrev pub StopsBy : SettleStop → WorldState → (batch : List Turn) → (state : ℕ) → (turns : List Turn) → (end : ℕ)
+    → Type 0
 StopsBy (VersionEnd at) world batch state turns end = StopsAtVersion world batch state turns end at
 StopsBy (Ring at) world batch state turns end = StopsAtRing world batch state turns end at
 StopsBy (Restless at) world batch state turns end = StopsRestless world batch state turns end at
@@ -54,5 +55,6 @@ abbrev pub StopsDrawn : (draws : Option ℕ) → WorldState → (batch : List Tu
 StopsDrawn draws world batch fault = IfSome draws (λ state. (end : ℕ) × StopsByDraws world batch state end fault)
 
 -- the journal is that of settles by draws. Where there are none nothing is said of which it is
-abbrev pub FollowsDraws : (draws : Option ℕ) → Option SettleStop → WorldState → List (List Turn) → List JournalLine → Type 0
+abbrev pub FollowsDraws : (draws : Option ℕ) → Option SettleStop → WorldState → List (List Turn) → List JournalLine
+    → Type 0
 FollowsDraws draws stop world batches journal = IfSome draws (λ state. IsDrawnJournal stop state world batches journal)

@@ -58,8 +58,8 @@ ToldPlans told net tail plans = IfSome told (λ text. ArePlanned text net tail p
 -- ---- how it ends
 
 -- The script was run to its end: each of its stages, which are those that the text plans, made its joins and cuts and
--- then settled its batch, all of them one run from the network's first world: the interleaving of the boxes. All settles
--- were delivered, each with exactly the paths of the network after it.
+-- then settled its batch, all of them one run from the network's first world: the interleaving of the boxes. All
+-- settles were delivered, each with exactly the paths of the network after it.
 --
 -- The headline, for every text and interleaving: each path of the network after a settle is as the path table says,
 -- closed where an end closes, flowing where one opens and none closes, either of the two for hold against hold; and
@@ -85,8 +85,8 @@ pub record RefusesGrown (told old new : Option (List ℕ)) (status : ℕ) (journ
   pub no_journal : journal ≡ []
 
 -- The script stopped within a stage that the text plans: at a settle, as any script does, or at a cut of a channel that
--- is in use. The one line that says where was delivered. The journal is the settled segments before, and the turns up to
--- the stop
+-- is in use. The one line that says where was delivered. The journal is the settled segments before, and the turns up
+-- to the stop
 pub record StopsGrown (told old new : Option (List ℕ)) (status due : ℕ) (journal : List JournalLine) : Type 0 where
   pub net : Net
   pub tail : TailText
@@ -142,7 +142,8 @@ PrintsGrownStop (Some stop) output = HasPlace (stop_word stop) output
 
 -- the stages that batches and items plan may be run from a world, which has no more boxes than a network may: they may
 -- be asked for, all that is ever in the network has names, and they are few
-pub record MayBeRun (names : NameLists) (world : WorldState) (batches : List (List Turn)) (items : List Item) : Type 0 where
+pub record MayBeRun (names : NameLists) (world : WorldState) (batches : List (List Turn))
+    (items : List Item) : Type 0 where
   pub lawful : (plans : List StagePlan) → ArePlansOf batches items plans → AreLawful (grown_from world) plans
   pub named : (plans : List StagePlan) → ArePlansOf batches items plans
       → NamesEnough names (grown_at_end (grown_from world) plans).world

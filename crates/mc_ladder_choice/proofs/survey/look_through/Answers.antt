@@ -1,6 +1,6 @@
 use Rattle.std.proofs.Common.{◌+◌, ◌∙◌, ℕ, ap, arith}
 use Rattle.mc_ladder_choice.specs.Choices.{ChoiceState}
-use Rattle.mc_ladder_choice.proofs.Surveyed.{all_found, begins, line_more}
+use Rattle.mc_ladder_choice.proofs.Surveyed.{begins, line_more}
 use Rattle.mc_ladder_choice.proofs.survey.look_through.Goals as goal
 
 pub loop-line-init : goal.loop-line-init
