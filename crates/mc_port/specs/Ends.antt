@@ -1,5 +1,6 @@
 -- What a contract sees of the two ends of a ring.
-use Rattle.std.specs.Prelude.{◌≡◌, ℕ, ◌+◌, ◌<◌, ◌⊎◌, List, [], min, length, drop, if◌then◌else◌, nat_eq}
+use Rattle.std.specs.Prelude.{◌≡◌, ℕ, ◌+◌, ◌<◌, ◌≤◌, ◌⊎◌, List, [], ◌∷◌, ◌++◌, min, length, drop, if◌then◌else◌, nat_eq}
+use mathlib.Core.List.{IsPrefix}
 use denote.RawPtr.{Ptr}
 use Rattle.std.specs.declared.alloc.Global.{Global}
 use Rattle.rtrb.specs.Ring.{sent, received as taken_from, known_free, known_items}
@@ -8,6 +9,16 @@ use Rattle.mc_port.specs.declared.ends.InPort.{InPort}
 use Rattle.mc_port.specs.declared.ends.OutPort.{OutPort}
 use Rattle.mc_port.specs.declared.limit.TheConstants.{LAST_COUNT}
 use Rattle.mc_port.specs.declared.stamped.Stamped.{Stamped}
+
+-- what tells one ring from another
+abbrev pub RingName : Type 0
+RingName = Ptr × Ptr × (ℕ × (ℕ × ℕ)) × Global
+
+abbrev pub out_ring : OutPort → RingName
+out_ring port = (port.end.end.words, port.end.end.slots, port.end.end.names, port.end.end.heap)
+
+abbrev pub in_ring : InPort → RingName
+in_ring port = (port.end.end.words, port.end.end.slots, port.end.end.names, port.end.end.heap)
 
 -- ---- the end that gives
 
@@ -26,6 +37,26 @@ back_count port = port.handed_back
 -- the count when an item was handed back once more
 abbrev pub one_more_back : ℕ → ℕ
 one_more_back count = min (count + 1) LAST_COUNT
+
+-- the item went into the ring, and at most one place less is known to be free
+pub record IsGiven (old new : OutPort) (item : Stamped) : Type 0 where
+  pub items : given new ≡ given old ++ item ∷ []
+  pub places : free_places old ≤ free_places new + 1
+  pub count : back_count new ≡ back_count old
+
+-- the item came back from a ring without a free place known before or after, and that was counted
+pub record IsHandedBack (old new : OutPort) (item back : Stamped) : Type 0 where
+  pub same : back ≡ item
+  pub items : given new ≡ given old
+  pub full_before : free_places old ≡ 0
+  pub full : free_places new ≡ 0
+  pub count : back_count new ≡ one_more_back (back_count old)
+
+-- nothing is given, and nothing is handed back
+pub record GivesNothing (old new : OutPort) : Type 0 where
+  pub ring : out_ring new ≡ out_ring old
+  pub items : given new ≡ given old
+  pub count : back_count new ≡ back_count old
 
 -- ---- the end that takes
 
@@ -55,17 +86,12 @@ pub record KnowsNothing (old new : InPort) : Type 0 where
   pub now : known new ≡ []
   pub looked : HasLooked old new
 
+-- it stays the end of its ring, and counts no look
+pub record CountsNoLook (old new : InPort) : Type 0 where
+  pub ring : in_ring new ≡ in_ring old
+  pub looks : look_count new ≡ look_count old
+
 -- ---- both
-
--- what tells one ring from another
-abbrev pub RingName : Type 0
-RingName = Ptr × Ptr × (ℕ × (ℕ × ℕ)) × Global
-
-abbrev pub out_ring : OutPort → RingName
-out_ring port = (port.end.end.words, port.end.end.slots, port.end.end.names, port.end.end.heap)
-
-abbrev pub in_ring : InPort → RingName
-in_ring port = (port.end.end.words, port.end.end.slots, port.end.end.names, port.end.end.heap)
 
 -- the two ends of one ring
 abbrev pub IsPair : OutPort → InPort → Type 0
@@ -74,6 +100,11 @@ IsPair from to = out_ring from ≡ in_ring to
 -- what was given to a ring and not taken from it
 abbrev pub left_in : OutPort → InPort → List Stamped
 left_in from to = drop (length (received to)) (given from)
+
+-- what was given is what was taken, and then what is left, of which the taking end knows the first items
+pub record IsInOrder (from : OutPort) (to : InPort) : Type 0 where
+  pub left : received to ++ left_in from to ≡ given from
+  pub knew : IsPrefix (known to) (left_in from to)
 
 -- ---- items
 

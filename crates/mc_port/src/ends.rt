@@ -2,8 +2,8 @@
 
 ghost use Rattle.std.specs.Prelude.{◌≡◌, ◌+◌, ◌<◌, ◌≤◌, [], ◌∷◌, ◌++◌, length, map, nat_lt, slice_get, IfErr, IfNone, IfOk, IsFalse, MatchOption, OnErr, OnOk};
 ghost use mathlib.Core.List.{IsPrefix};
-ghost use Rattle.mc_port.specs.Ends.{back_count, free_places, given, in_ring, known, left_in, look_count, looks_after, one_more_back, out_ring, received, without_stamp};
-ghost use Rattle.mc_port.specs.Ends.{HasLooked, IsPair, KnowsNothing};
+ghost use Rattle.mc_port.specs.Ends.{back_count, free_places, given, in_ring, known, left_in, look_count, looks_after, out_ring, received, without_stamp};
+ghost use Rattle.mc_port.specs.Ends.{CountsNoLook, GivesNothing, IsGiven, IsHandedBack, IsInOrder, IsPair, KnowsNothing};
 ghost use Rattle.mc_port.specs.declared.limit.TheConstants.{RING_LIMIT};
 
 use crate::limit::RING_LIMIT;
@@ -56,13 +56,8 @@ impl OutPort {
     /// and saw none when it looked again; and that is counted.
     pub fn give(&mut self, item: Stamped) -> Result<(), Stamped>
         ensures ring { out_ring self.new ≡ out_ring self.old }
-        ensures given { OnOk result (given self.new ≡ given self.old ++ item ∷ []) }
-        ensures places { OnOk result (free_places self.old ≤ free_places self.new + 1) }
-        ensures back { IfErr result (λ back. back ≡ item) }
-        ensures kept { OnErr result (given self.new ≡ given self.old) }
-        ensures full { OnErr result ((free_places self.old ≡ 0) × (free_places self.new ≡ 0)) }
-        ensures counted { OnErr result (back_count self.new ≡ one_more_back (back_count self.old)) }
-        ensures uncounted { OnOk result (back_count self.new ≡ back_count self.old) }
+        ensures given { OnOk result (IsGiven self.old self.new item) }
+        ensures back { IfErr result (λ back. IsHandedBack self.old self.new item back) }
     {
         match self.end.push(item) {
             Ok(()) => Ok(()),
@@ -132,16 +127,12 @@ impl InPort {
 /// How many items are left in a ring, where both ends are at hand. The taking end knows of them all then.
 pub fn look_beside(from: &mut OutPort, to: &mut InPort) -> usize
     requires { IsPair from.old to.old }
-    ensures out_ring { out_ring from.new ≡ out_ring from.old }
-    ensures in_ring { in_ring to.new ≡ in_ring to.old }
-    ensures given { given from.new ≡ given from.old }
+    ensures from { GivesNothing from.old from.new }
+    ensures to { CountsNoLook to.old to.new }
+    ensures order { IsInOrder from.old to.old }
     ensures received { received to.new ≡ received to.old }
-    ensures left { received to.old ++ left_in from.old to.old ≡ given from.old }
-    ensures knew { IsPrefix (known to.old) (left_in from.old to.old) }
     ensures known { known to.new ≡ left_in from.old to.old }
     ensures count { result ≡ length (left_in from.old to.old) }
-    ensures looks { look_count to.new ≡ look_count to.old }
-    ensures handed_back { back_count from.new ≡ back_count from.old }
 {
     to.end.slots_beside(&mut from.end)
 }
@@ -154,17 +145,13 @@ pub fn drain_beside(
     into: &mut Lane<Tagged>,
 ) -> Result<(), AllocError>
     requires { IsPair from.old to.old }
-    ensures out_ring { out_ring from.new ≡ out_ring from.old }
-    ensures in_ring { in_ring to.new ≡ in_ring to.old }
-    ensures given { given from.new ≡ given from.old }
-    ensures left { OnOk result (received to.old ++ left_in from.old to.old ≡ given from.old) }
-    ensures knew { OnOk result (IsPrefix (known to.old) (left_in from.old to.old)) }
+    ensures from { GivesNothing from.old from.new }
+    ensures to { CountsNoLook to.old to.new }
+    ensures order { OnOk result (IsInOrder from.old to.old) }
     ensures received { OnOk result (received to.new ≡ given from.old) }
     ensures empty { OnOk result (known to.new ≡ []) }
     ensures moved { OnOk result (into.new.items ≡ into.old.items ++ map without_stamp (left_in from.old to.old)) }
     ensures kept { OnErr result ((received to.new ≡ received to.old) × (into.new.items ≡ into.old.items)) }
-    ensures looks { look_count to.new ≡ look_count to.old }
-    ensures handed_back { back_count from.new ≡ back_count from.old }
 {
     let count = to.end.slots_beside(&mut from.end);
     into.reserve(count)?;
@@ -176,11 +163,10 @@ pub fn drain_beside(
 fn move_known(count: usize, to: &mut InPort, into: &mut Lane<Tagged>)
     requires count { count ≡ length (known to.old) }
     requires room { count ≤ into.old.spare }
-    ensures ring { in_ring to.new ≡ in_ring to.old }
+    ensures to { CountsNoLook to.old to.new }
     ensures received { received to.new ≡ received to.old ++ known to.old }
     ensures empty { known to.new ≡ [] }
     ensures moved { into.new.items ≡ into.old.items ++ map without_stamp (known to.old) }
-    ensures looks { look_count to.new ≡ look_count to.old }
 {
     for _ in 0..count {
         let item = to.end.pop_known();
