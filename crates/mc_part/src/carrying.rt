@@ -1,8 +1,7 @@
 // What is carried over between two parts, by a lane that crosses.
 
 ghost use Rattle.std.specs.Prelude.{◌≡◌, ◌<◌, ◌^◌, ◌++◌, [], ◌∷◌, length, slice_get, IfOk, IsFalse, IsTrue, OnErr, OnOk, Some};
-ghost use mathlib.Core.List.{IsPrefix};
-ghost use Rattle.mc_port.specs.Ends.{IsPair, given, in_ring, known, left_in, out_ring, received};
+ghost use Rattle.mc_port.specs.Ends.{GivesNothing, IsInOrder, IsPair, in_ring, known, left_in, received};
 ghost use Rattle.mc_world.specs.Pumping.{is_slot_at, with_last};
 ghost use Rattle.mc_part.specs.Ports.{entry_slot, into_lane};
 ghost use Rattle.mc_part.specs.Carrying.{left_count, waiting_before};
@@ -55,12 +54,10 @@ fn carry_item(
 // The oldest item that is left in a ring.
 fn first_left(from: &mut OutPort, to: &mut InPort) -> Option<Stamped>
     requires { IsPair from.old to.old }
-    ensures out_ring { out_ring from.new ≡ out_ring from.old }
+    ensures from { GivesNothing from.old from.new }
     ensures in_ring { in_ring to.new ≡ in_ring to.old }
-    ensures given { given from.new ≡ given from.old }
     ensures received { received to.new ≡ received to.old }
-    ensures left { received to.old ++ left_in from.old to.old ≡ given from.old }
-    ensures knew { IsPrefix (known to.old) (left_in from.old to.old) }
+    ensures order { IsInOrder from.old to.old }
     ensures first { result ≡ slice_get (left_in from.old to.old) 0 }
     ensures known { result ≡ slice_get (known to.new) 0 }
 {
