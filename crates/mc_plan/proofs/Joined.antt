@@ -24,7 +24,7 @@ record KeepsRules (plan : PlanState) (from to : ℕ) (media : List Medium) : Typ
   gets : MayGet plan from to media
   some : 0 < length media
   tunnels : length media ≤ 8
-  channels : length plan.channels < 1024
+  channels : length plan.channels < 262144
 
 -- by what is asked before
 kept_by_join : (plan : PlanState) (from to : ℕ) (media : List Medium) → join_fault plan from to media ≡ None → KeepsRules plan from to media

@@ -58,7 +58,7 @@ slots_from : (channels : List ChannelState) (who : ℕ) (planned : BoxPlan) → 
 slots_from channels who planned = length-map (setups_of channels who) first_slot ∙ length_setups channels who
 
 -- it is new, within the limits
-new_from : (channels : List ChannelState) (who : ℕ) (planned : BoxPlan) → slots_of channels who ≤ 64 → who < 256 → IsNewBox (box_from channels who planned)
+new_from : (channels : List ChannelState) (who : ℕ) (planned : BoxPlan) → slots_of channels who ≤ 64 → who < 262144 → IsNewBox (box_from channels who planned)
 new_from channels who planned few below =
     first_is_new planned.kind who planned.codecs planned.sends planned.first_version (setups_of channels who) None
     (subst (λ (n : ℕ). n ≤ 64) (sym (length_setups channels who)) few) (omega arith) tt

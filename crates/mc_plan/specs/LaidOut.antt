@@ -3,7 +3,7 @@ use Rattle.std.specs.Prelude.{◌≡◌, ◌≢◌, ℕ, ◌+◌, ◌<◌, ◌�
 use Rattle.mc_model.specs.Worlds.{ChannelState, HasTunnels, places_among}
 use Rattle.mc_plan.specs.Plans.{PlanState, is_of, slots_of}
 use Rattle.mc_box.specs.declared.limit.TheConstants.{SLOT_LIMIT}
-use Rattle.mc_plan.specs.declared.limit.TheConstants.{BOX_LIMIT, CHANNEL_LIMIT}
+use Rattle.mc_plan.specs.declared.limit.TheConstants.{PLAN_BOX_LIMIT, PLAN_CHANNEL_LIMIT}
 
 -- the box and local number of a slot, by its number among these
 abbrev pub place_at : List (ℕ × ℕ) → ℕ → ℕ × ℕ
@@ -18,11 +18,11 @@ abbrev pub AreInOrder : List (ℕ × ℕ) → Type 0
 AreInOrder places =
     (s : ℕ) → s < length places → (place_at places s).1 ≡ count_by (is_of (place_at places s).0) (take s places)
 
--- at most 256 boxes of 64 slots, and 1,024 channels of one to 8 tunnels between different boxes: each slot's box is
--- there, and the slots of a box are numbered in the order of tunnels
+-- at most 262,144 boxes of 64 slots, and as many channels of one to 8 tunnels between different boxes: each slot's box
+-- is there, and the slots of a box are numbered in the order of tunnels
 pub record IsLaidOut (plan : PlanState) : Type 0 where
-  pub boxes : length plan.boxes ≤ BOX_LIMIT
-  pub channels : length plan.channels ≤ CHANNEL_LIMIT
+  pub boxes : length plan.boxes ≤ PLAN_BOX_LIMIT
+  pub channels : length plan.channels ≤ PLAN_CHANNEL_LIMIT
   pub tunnels : All HasTunnels plan.channels
   pub apart : All (λ ends. ends.from ≢ ends.to) plan.channels
   pub slots : (who : ℕ) → slots_of plan.channels who ≤ SLOT_LIMIT
@@ -38,9 +38,10 @@ pub record HasBoxes (boxes : ℕ) (ends : ChannelState) : Type 0 where
 abbrev pub AreSlotCounts : List ℕ → List ChannelState → Type 0
 AreSlotCounts counts channels = (who : ℕ) → slice_index_or counts who 0 ≡ slots_of channels who
 
--- a plan that is laid out, with the numbers of its boxes' slots
+-- a plan that is laid out, with the number of slots of each of its boxes
 pub record IsCountedPlan (plan : PlanState) (counts : List ℕ) : Type 0 where
   pub laid : IsLaidOut plan
+  pub long : length counts ≡ length plan.boxes
   pub counted : AreSlotCounts counts plan.channels
 
 -- a box has so many slots more, by these counts

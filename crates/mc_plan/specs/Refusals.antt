@@ -6,7 +6,7 @@ use Rattle.mc_plan.specs.Plans.{PlanState, last_channel, slots_of}
 use Rattle.mc_plan.specs.declared.fault.PlanFault.{PlanFault}
 use Rattle.mc_box.specs.declared.limit.TheConstants.{SLOT_LIMIT}
 use Rattle.mc_model.specs.declared.channel.TheConstants.{TUNNEL_LIMIT}
-use Rattle.mc_plan.specs.declared.limit.TheConstants.{BOX_LIMIT, CHANNEL_LIMIT}
+use Rattle.mc_plan.specs.declared.limit.TheConstants.{PLAN_BOX_LIMIT, PLAN_CHANNEL_LIMIT}
 use Rattle.mc_plan.specs.declared.fault.PlanFault.TheVariants.{NoBox, NoChannel, SameBox, NoTunnels, TooManyTunnels, BoxesFull, ChannelsFull, SlotsFull, NoMemory}
 
 -- this fault where a rule is broken, and else the first of the others
@@ -15,7 +15,7 @@ fault_if broken fault others = if broken then Some fault else others
 
 -- why a box isn't added
 abbrev pub add_fault : PlanState → Option PlanFault
-add_fault plan = fault_if (nat_le BOX_LIMIT (length plan.boxes)) BoxesFull None
+add_fault plan = fault_if (nat_le PLAN_BOX_LIMIT (length plan.boxes)) BoxesFull None
 
 -- whether a box would have more than 64 slots
 abbrev pub overfills : PlanState → (who more : ℕ) → Bool
@@ -28,7 +28,7 @@ join_fault plan from to media =
     (fault_if (from == to) SameBox
     (fault_if (length media == 0) NoTunnels
     (fault_if (nat_lt TUNNEL_LIMIT (length media)) TooManyTunnels
-    (fault_if (nat_le CHANNEL_LIMIT (length plan.channels)) ChannelsFull
+    (fault_if (nat_le PLAN_CHANNEL_LIMIT (length plan.channels)) ChannelsFull
     (fault_if (overfills plan from (length media) || overfills plan to (length media)) SlotsFull None)))))
 
 -- why a channel gets no tunnel more: the first rule that this breaks

@@ -7,7 +7,7 @@ ghost use Rattle.mc_plan.specs.LaidOut.{HasBoxes, IsLaidOut};
 ghost use Rattle.mc_plan.specs.Plans.{box_given, boxes_from, boxes_given};
 ghost use Rattle.mc_model.specs.Sound.{AreNew};
 ghost use Rattle.mc_box.specs.Boxes.{set_up};
-ghost use Rattle.mc_plan.specs.declared.limit.TheConstants.{BOX_LIMIT, CHANNEL_LIMIT};
+ghost use Rattle.mc_plan.specs.declared.limit.TheConstants.{PLAN_BOX_LIMIT, PLAN_CHANNEL_LIMIT};
 
 use crate::plan::BoxPlan;
 use mc_box::{MediaBox, Setup, SlotSetup};
@@ -33,7 +33,7 @@ fn setups_with(
     plans: &[BoxPlan],
     lists: Vec<Vec<SlotSetup>>,
 ) -> Result<Vec<Setup>, AllocError>
-    requires few { length plans.now ≤ BOX_LIMIT }
+    requires few { length plans.now ≤ PLAN_BOX_LIMIT }
     requires each { length lists.items ≡ length plans.now }
     ensures { IfOk result (λ setups. map set_up setups.items ≡ boxes_given 0 (lists_of lists.items) plans.now) }
 {
@@ -78,7 +78,7 @@ fn slots_by_box(
     channels: &[Channel],
     boxes: usize,
 ) -> Result<Vec<Vec<SlotSetup>>, AllocError>
-    requires channels { length channels.now ≤ CHANNEL_LIMIT }
+    requires channels { length channels.now ≤ PLAN_CHANNEL_LIMIT }
     requires tunnels { All HasTunnels channels.now }
     requires there { All (HasBoxes boxes) channels.now }
     ensures { IfOk result (λ lists. lists_of lists.items ≡ with_more (setups_of channels.now) 0 (replicate boxes [])) }
@@ -109,7 +109,7 @@ fn add_channel(
     count: u32,
     lists: &mut Vec<Vec<SlotSetup>>,
 ) -> Result<(), AllocError>
-    requires tunnels { count + length channel.now.tunnels ≤ 2 ^ 16 }
+    requires tunnels { count + length channel.now.tunnels ≤ 2 ^ 31 }
     requires there { HasBoxes (length lists.old.items) channel.now }
     ensures slots { OnOk result (lists_of lists.new.items
         ≡ with_more (λ who. setups_at who count channel.now) 0 (lists_of lists.old.items)) }

@@ -19,9 +19,9 @@ pub enum PlanFault {
     NoTunnels,
     /// The channel would have more than 8 tunnels.
     TooManyTunnels,
-    /// The plan has 256 boxes.
+    /// The plan has 262,144 boxes.
     BoxesFull,
-    /// The plan has 1,024 channels.
+    /// The plan has 262,144 channels.
     ChannelsFull,
     /// One of the channel's two boxes would have more than 64 slots.
     SlotsFull,

@@ -10,7 +10,7 @@ ghost use Rattle.mc_model.specs.declared.channel.TheConstants.{TUNNEL_LIMIT};
 use crate::boxes::setups_from;
 use crate::fault::PlanFault;
 use crate::layout::Layout;
-use crate::limit::{BOX_LIMIT, CHANNEL_LIMIT};
+use crate::limit::{PLAN_BOX_LIMIT, PLAN_CHANNEL_LIMIT};
 use crate::tunnels::{add_tunnel, count_of, count_slots, last_channel, tunnels_between};
 use mc_box::Kind;
 use mc_box::limit::SLOT_LIMIT;
@@ -29,15 +29,15 @@ pub struct BoxPlan {
     pub first_version: u32,
 }
 
-/// The plan of a network: at most 256 boxes, numbered from 0 on in the order in which they were added, and at most
-/// 1,024 channels between them. A box has at most 64 slots. They are numbered from 0 on too, in the order of the
+/// The plan of a network: at most 262,144 boxes, numbered from 0 on in the order in which they were added, and at most
+/// as many channels between them. A box has at most 64 slots. They are numbered from 0 on too, in the order of the
 /// channels that lead to it and of the tunnels of each.
 #[derive(Debug, Drop)]
 pub struct Plan {
     boxes: Vec<BoxPlan>,
     channels: Vec<Channel>,
-    // How many slots each box has at these channels, and 0 where there is no box.
-    slot_counts: [u8; BOX_LIMIT],
+    // How many slots each box has at these channels.
+    slot_counts: Vec<u8>,
     alloc: Global,
 }
 
@@ -51,7 +51,7 @@ impl Model for Plan {
     ghost view = { λ plan. record { boxes = plan.boxes.items; channels = plan.channels.items } };
 
     ghost invariant = { λ plan. IsCountedPlan (record { boxes = plan.boxes.items; channels = plan.channels.items })
-        plan.slot_counts };
+        plan.slot_counts.items };
 }
 
 impl Plan {
@@ -62,7 +62,7 @@ impl Plan {
         Plan {
             boxes: Vec::new(alloc),
             channels: Vec::new(alloc),
-            slot_counts: [0; BOX_LIMIT],
+            slot_counts: Vec::new(alloc),
             alloc,
         }
     }
@@ -97,17 +97,19 @@ impl Plan {
         usize::from(count_of(&self.slot_counts, who))
     }
 
-    /// Adds a box, and answers its number. It is refused where the plan has 256 boxes.
+    /// Adds a box, and answers its number. It is refused where the plan has 262,144 boxes.
     pub fn add(&mut self, planned: BoxPlan) -> Result<u32, PlanFault>
         ensures answer { Gives result (add_fault self.old) (length self.old.boxes) }
         ensures added { OnOk result (self.new ≡ with_plan self.old planned) }
         ensures unchanged { OnErr result (self.new ≡ self.old) }
     {
         let number = self.boxes.len();
-        if BOX_LIMIT <= number {
+        if PLAN_BOX_LIMIT <= number {
             return Err(PlanFault::BoxesFull);
         }
+        self.slot_counts.reserve(1)?;
         self.boxes.push(planned)?;
+        self.slot_counts.push_reserved(0);
         Ok(number as u32)
     }
 
@@ -192,7 +194,7 @@ impl Plan {
         if TUNNEL_LIMIT < media.len() {
             return Err(PlanFault::TooManyTunnels);
         }
-        if CHANNEL_LIMIT <= self.channels.len() {
+        if PLAN_CHANNEL_LIMIT <= self.channels.len() {
             return Err(PlanFault::ChannelsFull);
         }
         if self.overfills(from, media.len()) || self.overfills(to, media.len()) {
