@@ -9,8 +9,8 @@ use Rattle.mc_grown_script.specs.Scripts.{ScriptState}
 use Rattle.mc_grown_script.specs.ScriptRuns.{StopsSettle}
 use Rattle.mc_stages.specs.StageRuns.{IsCutShort}
 use Rattle.mc_stages.specs.declared.plan.StagePlan.{StagePlan}
-use Rattle.mc_grown_script.specs.declared.script.Outcome.{Outcome}
-use Rattle.mc_grown_script.specs.declared.script.Outcome.TheVariants.{Settled, Stopped as HasStopped}
+use Rattle.mc_grown_script.specs.declared.script.StageOutcome.{StageOutcome}
+use Rattle.mc_grown_script.specs.declared.script.StageOutcome.TheVariants.{Settled, Stopped as HasStopped}
 use Rattle.mc_grown_script.specs.declared.stop.GrownStop.TheVariants.{Cut, Settle}
 use Rattle.mc_grown_script.specs.declared.stop.ScriptRun.{ScriptRun}
 use Rattle.mc_growth.specs.Outs.{SetNoneOut}
@@ -86,7 +86,7 @@ settled_stage names number plan old mid next may none grown journal output s = r
 }
 
 -- whichever comes of the batch
-pub came_of : (outcome : Outcome) (names : NameLists) (number : ℕ) (plan : StagePlan) (old mid : ScriptState) → MayGrowAll old.network (growths_of plan)
+pub came_of : (outcome : StageOutcome) (names : NameLists) (number : ℕ) (plan : StagePlan) (old mid : ScriptState) → MayGrowAll old.network (growths_of plan)
     → SetNoneOut (grown_by_all old.network (growths_of plan)).world (grown_by_all old.network (growths_of plan)).out (batch_of plan)
     → mid.network ≡ grown_by_all old.network (growths_of plan) → mid.journal ≡ old.journal → mid.output ≡ old.output
     → CameOfBatch names number (batch_of plan) mid outcome → CameOf names number plan old outcome

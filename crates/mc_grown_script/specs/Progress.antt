@@ -7,8 +7,8 @@ use Rattle.mc_grown_script.specs.Printed.{network_text, stop_line, stop_word}
 use Rattle.mc_grown_script.specs.Scripts.{ScriptState}
 use Rattle.mc_grown_script.specs.ScriptRuns.{StopsSettle, StopsStage}
 use Rattle.mc_stages.specs.declared.plan.StagePlan.{StagePlan}
-use Rattle.mc_grown_script.specs.declared.script.Outcome.{Outcome}
-use Rattle.mc_grown_script.specs.declared.script.Outcome.TheVariants.{Settled, Stopped}
+use Rattle.mc_grown_script.specs.declared.script.StageOutcome.{StageOutcome}
+use Rattle.mc_grown_script.specs.declared.script.StageOutcome.TheVariants.{Settled, Stopped}
 use Rattle.mc_grown_script.specs.declared.stop.GrownStop.{GrownStop}
 use Rattle.mc_grown_script.specs.declared.stop.GrownStop.TheVariants.{Settle}
 use Rattle.mc_grown_script.specs.declared.stop.ScriptRun.{ScriptRun}
@@ -51,7 +51,7 @@ pub record StopsBatch (names : NameLists) (batch : List Turn) (old : ScriptState
   pub is : run.stop ≡ Some (Settle stop)
 
 -- the batch was settled under this number, or it stopped
-abbrev pub CameOfBatch : NameLists → (number : ℕ) → (batch : List Turn) → ScriptState → Outcome → Type 0
+abbrev pub CameOfBatch : NameLists → (number : ℕ) → (batch : List Turn) → ScriptState → StageOutcome → Type 0
 CameOfBatch names number batch old (Settled next) = Settling names number batch old next
 CameOfBatch names number batch old (Stopped run) = StopsBatch names batch old run
 
@@ -80,7 +80,7 @@ pub record Stopping (names : NameLists) (plan : StagePlan) (old : ScriptState) (
   pub is : run.stop ≡ Some stop
 
 -- the stage was run under this number, or it stopped
-abbrev pub CameOf : NameLists → (number : ℕ) → StagePlan → ScriptState → Outcome → Type 0
+abbrev pub CameOf : NameLists → (number : ℕ) → StagePlan → ScriptState → StageOutcome → Type 0
 CameOf names number plan old (Settled next) = Staging names number plan old next
 CameOf names number plan old (Stopped run) = Stopping names plan old run
 

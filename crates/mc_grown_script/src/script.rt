@@ -26,7 +26,7 @@ use std::thread::Threads;
 
 // A script while it runs: its network, and what was kept and printed so far.
 #[derive(Drop)]
-struct Progress {
+struct StageProgress {
     network: Grown,
     journal: Vec<JournalLine>,
     output: Vec<u8>,
@@ -34,12 +34,12 @@ struct Progress {
 
 // What came of a stage: it was settled, or the script stopped.
 #[derive(Drop)]
-enum Outcome {
-    Settled(Progress),
+enum StageOutcome {
+    Settled(StageProgress),
     Stopped(ScriptRun),
 }
 
-impl Model for Progress {
+impl Model for StageProgress {
     ghost use Rattle.mc_grown_script.specs.Scripts.{ScriptState};
 
     ghost Value = { ScriptState };
@@ -51,11 +51,11 @@ impl Model for Progress {
     } };
 }
 
-impl Progress {
-    fn new(alloc: Global, network: Grown) -> Progress
+impl StageProgress {
+    fn new(alloc: Global, network: Grown) -> StageProgress
         ensures { result ≡ first_state network }
     {
-        Progress {
+        StageProgress {
             network,
             journal: Vec::new(alloc),
             output: Vec::new(alloc),
@@ -71,14 +71,14 @@ impl Progress {
         names: &Names,
         number: u32,
         plan: &StagePlan,
-    ) -> Result<Outcome, AllocError>
+    ) -> Result<StageOutcome, AllocError>
         requires asks { MayAskAll self.network (growths_of plan.now) }
         requires commands { MayCommand (grown_by_all self.network (growths_of plan.now)) (batch_of plan.now) }
         requires named { NamesEnough names.now (grown_by_all self.network (growths_of plan.now)).world }
         requires few { length self.network.world.boxes ≤ NETWORK_LIMIT }
         ensures { IfOk result (λ outcome. CameOf names.now number plan.now self outcome) }
     {
-        let Progress {
+        let StageProgress {
             network,
             journal,
             output,
@@ -89,7 +89,7 @@ impl Progress {
             Ok(network) => {
                 network.keeps();
                 network.world().keeps();
-                let grown = Progress {
+                let grown = StageProgress {
                     network,
                     journal,
                     output,
@@ -100,7 +100,7 @@ impl Progress {
                 let stop = GrownStop::Cut(used.at);
                 let line = print_slot_stop(alloc, names, stop_word(stop), used.place)?;
                 let run = end_at(stop, &[], line, journal)?;
-                Ok(Outcome::Stopped(run))
+                Ok(StageOutcome::Stopped(run))
             }
             Err(GrowthFault::NoMemory(e)) => Err(e),
         }
@@ -115,13 +115,13 @@ impl Progress {
         names: &Names,
         number: u32,
         batch: &[Turn],
-    ) -> Result<Outcome, AllocError>
+    ) -> Result<StageOutcome, AllocError>
         requires commands { MayCommand self.network batch.now }
         requires named { NamesEnough names.now self.network.world }
         requires few { length self.network.world.boxes ≤ NETWORK_LIMIT }
         ensures { IfOk result (λ outcome. CameOfBatch names.now number batch.now self outcome) }
     {
-        let Progress {
+        let StageProgress {
             network,
             mut journal,
             mut output,
@@ -132,7 +132,7 @@ impl Progress {
             Ok((network, turns)) => {
                 keep_settle(&turns, &mut journal)?;
                 put_network(alloc, names, number, &network, &mut output)?;
-                Ok(Outcome::Settled(Progress {
+                Ok(StageOutcome::Settled(StageProgress {
                     network,
                     journal,
                     output,
@@ -140,7 +140,7 @@ impl Progress {
             }
             Err(fault) => {
                 let run = stop_by(alloc, names, journal, fault)?;
-                Ok(Outcome::Stopped(run))
+                Ok(StageOutcome::Stopped(run))
             }
         }
     }
@@ -215,13 +215,13 @@ pub fn run_plans<R: Threads + Sync, G: Gate + Sync>(
 {
     network.keeps();
     network.world().keeps();
-    let mut progress = Progress::new(alloc, network);
+    let mut progress = StageProgress::new(alloc, network);
     for index in 0..plans.len() {
         let plan = &plans[index];
         let number = (index + 1) as u32;
         match progress.run_plan(rt, alloc, gate, names, number, plan)? {
-            Outcome::Settled(next) => progress = next,
-            Outcome::Stopped(run) => return Ok(run),
+            StageOutcome::Settled(next) => progress = next,
+            StageOutcome::Stopped(run) => return Ok(run),
         }
     }
     Ok(ScriptRun {

@@ -12,8 +12,8 @@ use Rattle.mc_ladder.specs.Arrows.{is_right}
 use Rattle.mc_ladder.specs.Placing.{place_word}
 use Rattle.mc_ladder.specs.Rows.{arrow_of}
 use Rattle.mc_ladder.specs.Signals.{signal_text}
-use Rattle.mc_ladder_svg.specs.declared.measure.Side.{Side}
-use Rattle.mc_ladder_svg.specs.declared.measure.Side.TheVariants.{Left, Right}
+use Rattle.mc_ladder_svg.specs.declared.measure.TextSide.{TextSide}
+use Rattle.mc_ladder_svg.specs.declared.measure.TextSide.TheVariants.{Left, Right}
 use Rattle.mc_ladder_svg.specs.declared.row.Row.{Row}
 use Rattle.mc_ladder_svg.specs.Elements.{box_class, circle, text_at, text_beside}
 use Rattle.mc_ladder_svg.specs.Measures.{beside, opposite, x_of}
@@ -21,11 +21,11 @@ use Rattle.mc_ladder_svg.specs.Signals.{shown_words, signal_class}
 use Rattle.mc_ladder_svg.specs.TurnRows.{row_end, row_place, row_start}
 
 -- the side to which an arrow goes
-abbrev pub onward : Arrow → Side
+abbrev pub onward : Arrow → TextSide
 onward arrow = if is_right arrow then Right else Left
 
 -- the side from which it comes
-abbrev pub back : Arrow → Side
+abbrev pub back : Arrow → TextSide
 back arrow = opposite (onward arrow)
 
 -- where its line ends: 8 px before the line of the box
@@ -45,7 +45,7 @@ arrow_line arrow = concat (
     ∷ decimal (tip arrow) ∷ codes "\"/>" ∷ [])
 
 -- a head from its point on
-abbrev pub head_shape : Side → List ℕ
+abbrev pub head_shape : TextSide → List ℕ
 head_shape Left = codes "l10-5v10z"
 head_shape Right = codes "l-10-5v10z"
 
@@ -84,7 +84,7 @@ arrow_words names arrow signal =
     text_at (codes "m") (beside (onward arrow) (x_of arrow.from) 68) 10 (shown_words names signal)
 
 -- the name of a slot, beside the line of its box
-abbrev pub slot_name_at : NameLists → WorldState → (slot : ℕ) → Side → (column : ℕ) → List ℕ
+abbrev pub slot_name_at : NameLists → WorldState → (slot : ℕ) → TextSide → (column : ℕ) → List ℕ
 slot_name_at names world slot side column =
     text_beside (codes "d") side (beside side (x_of column) 8) 21
     (slot_name names (place world slot).0 (place world slot).1)

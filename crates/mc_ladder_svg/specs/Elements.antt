@@ -3,7 +3,7 @@ use Rattle.std.specs.Prelude.{ℕ, List, [], ◌∷◌, ◌++◌, codes}
 use Rattle.std.specs.Fmt.{decimal}
 use Rattle.std.specs.List.{concat}
 use Rattle.mc_ladder.specs.Glyphs.{each_of}
-use Rattle.mc_ladder_svg.specs.declared.measure.Side.{Side}
+use Rattle.mc_ladder_svg.specs.declared.measure.TextSide.{TextSide}
 use Rattle.mc_ladder_svg.specs.Measures.{anchor, x_of}
 
 -- what stands before the words of a text
@@ -16,7 +16,7 @@ abbrev pub text_at : (class : List ℕ) → (x y : ℕ) → (words : List ℕ) �
 text_at class x y words = text_opening class x y ++ words ++ codes "</text>"
 
 -- the same at a side of a line
-abbrev pub text_beside : (class : List ℕ) → Side → (x y : ℕ) → (words : List ℕ) → List ℕ
+abbrev pub text_beside : (class : List ℕ) → TextSide → (x y : ℕ) → (words : List ℕ) → List ℕ
 text_beside class side x y words = text_at (class ++ 32 ∷ anchor side) x y words
 
 abbrev pub circle : (class : List ℕ) → (x y radius : ℕ) → List ℕ

@@ -12,8 +12,8 @@ use Rattle.mc_ladder.specs.declared.mark.Mark.{Mark}
 use Rattle.mc_ladder.specs.Columns.{column_of}
 use Rattle.mc_ladder.specs.Rows.{command_rest, command_word, mark_of}
 use Rattle.mc_ladder.specs.Words.{spaced}
-use Rattle.mc_ladder_svg.specs.declared.measure.Side.{Side}
-use Rattle.mc_ladder_svg.specs.declared.measure.Side.TheVariants.{Left, Right}
+use Rattle.mc_ladder_svg.specs.declared.measure.TextSide.{TextSide}
+use Rattle.mc_ladder_svg.specs.declared.measure.TextSide.TheVariants.{Left, Right}
 use Rattle.mc_ladder_svg.specs.declared.row.Row.{Row}
 use Rattle.mc_ladder_svg.specs.Elements.{box_class, text_beside}
 use Rattle.mc_ladder_svg.specs.Measures.{beside, x_of}
@@ -40,7 +40,7 @@ abbrev pub is_last : (columns at : ℕ) → Bool
 is_last columns at = nat_lt 0 columns && at == columns - 1
 
 -- its words stand at the right of it, and in the last column at the left
-abbrev pub words_side : (columns at : ℕ) → Side
+abbrev pub words_side : (columns at : ℕ) → TextSide
 words_side columns at = if is_last columns at then Left else Right
 
 -- up to the title
@@ -51,15 +51,15 @@ command_opening at class row = row_start row.number class ++ box_class at ++ row
 abbrev pub command_title : (name words : List ℕ) → List ℕ
 command_title name words = name ++ spaced words ++ codes "</title>"
 
-abbrev pub mark_words : (at : ℕ) → Side → (words : List ℕ) → List ℕ
+abbrev pub mark_words : (at : ℕ) → TextSide → (words : List ℕ) → List ℕ
 mark_words at side words = text_beside (codes "o") side (beside side (x_of at) 12) 21 words
 
 -- a mark with its words
-abbrev pub command_picture : Mark → Side → (words : List ℕ) → List ℕ
+abbrev pub command_picture : Mark → TextSide → (words : List ℕ) → List ℕ
 command_picture mark side words = mark_shape (x_of mark.at) mark.glyph ++ mark_words mark.at side words
 
 -- a row with a mark, of a class, at a box and with words
-abbrev pub command_by : Mark → Side → (class name words : List ℕ) → Row → List ℕ
+abbrev pub command_by : Mark → TextSide → (class name words : List ℕ) → Row → List ℕ
 command_by mark side class name words row =
     command_opening mark.at class row ++ command_title name words ++ command_picture mark side words ++ row_end row
 

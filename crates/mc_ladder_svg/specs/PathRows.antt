@@ -13,8 +13,8 @@ use Rattle.mc_ladder.specs.declared.path.Ends.{Ends}
 use Rattle.mc_ladder.specs.Glyphs.{each_of}
 use Rattle.mc_ladder.specs.Routes.{ends_of, is_stop}
 use Rattle.mc_ladder.specs.Words.{spaced}
-use Rattle.mc_ladder_svg.specs.declared.measure.Side.{Side}
-use Rattle.mc_ladder_svg.specs.declared.measure.Side.TheVariants.{Left, Right}
+use Rattle.mc_ladder_svg.specs.declared.measure.TextSide.{TextSide}
+use Rattle.mc_ladder_svg.specs.declared.measure.TextSide.TheVariants.{Left, Right}
 use Rattle.mc_ladder_svg.specs.Elements.{box_class, text_at, text_beside}
 use Rattle.mc_ladder_svg.specs.Lines.{ends_drawn, is_turned, left_of, links, route, stops_drawn}
 use Rattle.mc_ladder_svg.specs.Marks.{is_last}
@@ -23,14 +23,14 @@ use Rattle.mc_ladder_svg.specs.Measures.{beside, opposite, x_of}
 -- ---- its ends
 
 -- the words of the left end stand at the left of its line, and those of the right end at the right
-abbrev pub low_side : Ends → Side
+abbrev pub low_side : Ends → TextSide
 low_side ends = if is_turned ends then Right else Left
 
 -- an end's slot and goal, above the line of the path
 abbrev pub goal_words : NameLists → EndView → List ℕ
 goal_words names end = slot_name names end.who end.local ++ spaced (goal_word end.goal)
 
-abbrev pub goal_label : NameLists → Side → (x : ℕ) → EndView → List ℕ
+abbrev pub goal_label : NameLists → TextSide → (x : ℕ) → EndView → List ℕ
 goal_label names side x end = text_beside (codes "o d") side x 10 (goal_words names end)
 
 -- what an end hears, where the path flows
@@ -47,16 +47,16 @@ abbrev pub why_words : List (Option ℕ) → EndView → List ℕ
 why_words whys end = codes "why" ++ spaced (why_word (slice_index_or whys end.slot None))
 
 -- what is told of an end below it
-abbrev pub told_label : NameLists → (flowing : Bool) → List (Option ℕ) → Side → (x : ℕ) → EndView → List ℕ
+abbrev pub told_label : NameLists → (flowing : Bool) → List (Option ℕ) → TextSide → (x : ℕ) → EndView → List ℕ
 told_label names true whys side x end =
     text_beside (hears_class (is_some end.hears)) side x 39 (hears_words names end)
 told_label names false whys side x end = text_beside (codes "o d") side x 39 (why_words whys end)
 
-abbrev pub end_labels_at : NameLists → (flowing : Bool) → List (Option ℕ) → Side → (x : ℕ) → EndView → List ℕ
+abbrev pub end_labels_at : NameLists → (flowing : Bool) → List (Option ℕ) → TextSide → (x : ℕ) → EndView → List ℕ
 end_labels_at names flowing whys side x end = goal_label names side x end ++ told_label names flowing whys side x end
 
 -- the words of an end stand 10 px from the line of its box
-abbrev pub end_labels : NameLists → (flowing : Bool) → List (Option ℕ) → Side → (column : ℕ) → EndView → List ℕ
+abbrev pub end_labels : NameLists → (flowing : Bool) → List (Option ℕ) → TextSide → (column : ℕ) → EndView → List ℕ
 end_labels names flowing whys side column end = end_labels_at names flowing whys side (beside side (x_of column) 10) end
 
 abbrev pub low_labels : NameLists → List (Option ℕ) → Ends → EndView → List ℕ

@@ -5,7 +5,7 @@ ghost use Rattle.mc_ladder.specs.Placing.{place_word};
 ghost use Rattle.mc_ladder_svg.specs.Arrows.{arrow_cross, arrow_dot, arrow_drawn, arrow_end, arrow_head, arrow_line, arrow_words, back, cross_at, head_shape, line_class, onward, slot_name_at, slot_names, take_by, take_opening, take_picture, take_row, take_title, tip};
 
 use crate::element::{put_beside, put_box_class, put_bytes, put_circle, put_text};
-use crate::measure::{COLUMN, Side, x_of};
+use crate::measure::{COLUMN, TextSide, x_of};
 use crate::row::{Row, put_row_end, put_row_place, put_row_start};
 use crate::signal::{shown_words, signal_class};
 use mc_ladder::{Arrow, Taking, arrow_of, place_of, place_word, put_signal, slot_word};
@@ -18,18 +18,18 @@ use std::alloc::{AllocError, Global};
 pub const APART: u128 = 8;
 
 // The side to which an arrow goes.
-fn onward(arrow: Arrow) -> Side
+fn onward(arrow: Arrow) -> TextSide
     ensures { result ≡ onward arrow }
 {
     if arrow.is_right() {
-        Side::Right
+        TextSide::Right
     } else {
-        Side::Left
+        TextSide::Left
     }
 }
 
 // The side from which it comes.
-fn back(arrow: Arrow) -> Side
+fn back(arrow: Arrow) -> TextSide
     ensures { result ≡ back arrow }
 {
     onward(arrow).opposite()
@@ -64,12 +64,12 @@ fn put_line(alloc: Global, arrow: Arrow, out: &mut Vec<u8>) -> Result<(), AllocE
 }
 
 // The path of a head from its point on.
-fn head_shape(side: Side) -> &'static str
+fn head_shape(side: TextSide) -> &'static str
     ensures { result.now ≡ head_shape side }
 {
     match side {
-        Side::Left => "l10-5v10z",
-        Side::Right => "l-10-5v10z",
+        TextSide::Left => "l10-5v10z",
+        TextSide::Right => "l-10-5v10z",
     }
 }
 
@@ -148,7 +148,7 @@ fn put_slot_name(
     names: &Names,
     world: &World,
     slot: u32,
-    side: Side,
+    side: TextSide,
     column: usize,
     out: &mut Vec<u8>,
 ) -> Result<(), AllocError>

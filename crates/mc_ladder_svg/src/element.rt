@@ -4,7 +4,7 @@ ghost use Rattle.std.specs.Prelude.{◌≡◌, ◌≤◌, ◌<◌, ◌+◌, ◌^
 ghost use Rattle.std.specs.List.{flat_map, range_with_len};
 ghost use Rattle.mc_ladder_svg.specs.Elements.{box_class, circle, text_at, text_beside, text_opening, upright, upright_each, uprights};
 
-use crate::measure::{Side, x_of};
+use crate::measure::{TextSide, x_of};
 use std::alloc::{AllocError, Global};
 
 // Appends bytes.
@@ -48,7 +48,7 @@ pub fn put_text(
 pub fn put_beside(
     alloc: Global,
     class: &str,
-    side: Side,
+    side: TextSide,
     x: u128,
     y: u32,
     words: &[u8],

@@ -5,7 +5,7 @@ ghost use Rattle.mc_ladder_svg.specs.Measures.{x_of};
 ghost use Rattle.mc_ladder_svg.specs.Marks.{command_by, command_class, command_opening, command_picture, command_row, command_title, command_words, is_last, mark_shape, mark_words, words_side};
 
 use crate::element::{put_beside, put_box_class, put_bytes};
-use crate::measure::{Side, x_of};
+use crate::measure::{TextSide, x_of};
 use crate::row::{Row, put_row_end, put_row_place, put_row_start};
 use mc_box::{Event, Turn};
 use mc_ladder::{Glyph, Mark, box_word, command_word, mark_of, put_command_rest, put_word};
@@ -58,13 +58,13 @@ pub fn is_last(columns: usize, at: usize) -> bool
 }
 
 // The side of the line at which the words stand: the right, but the left of the last one.
-fn words_side(columns: usize, at: usize) -> Side
+fn words_side(columns: usize, at: usize) -> TextSide
     ensures { result ≡ words_side columns at }
 {
     if is_last(columns, at) {
-        Side::Left
+        TextSide::Left
     } else {
-        Side::Right
+        TextSide::Right
     }
 }
 
@@ -96,7 +96,7 @@ fn put_title(name: &[u8], words: &[u8], out: &mut Vec<u8>) -> Result<(), AllocEr
 fn put_words(
     alloc: Global,
     at: usize,
-    side: Side,
+    side: TextSide,
     words: &[u8],
     out: &mut Vec<u8>,
 ) -> Result<(), AllocError>
@@ -109,7 +109,7 @@ fn put_words(
 fn put_picture(
     alloc: Global,
     mark: Mark,
-    side: Side,
+    side: TextSide,
     words: &[u8],
     out: &mut Vec<u8>,
 ) -> Result<(), AllocError>
@@ -123,7 +123,7 @@ fn put_picture(
 fn put_command_by(
     alloc: Global,
     mark: Mark,
-    side: Side,
+    side: TextSide,
     class: &str,
     name: &[u8],
     words: &[u8],

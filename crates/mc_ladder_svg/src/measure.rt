@@ -24,19 +24,19 @@ pub const FOOT: u128 = 8;
 
 // A side of a line.
 #[derive(Clone, Copy)]
-pub enum Side {
+pub enum TextSide {
     Left,
     Right,
 }
 
-impl Side {
+impl TextSide {
     // The other side.
-    pub fn opposite(self) -> Side
+    pub fn opposite(self) -> TextSide
         ensures { result ≡ opposite self }
     {
         match self {
-            Side::Left => Side::Right,
-            Side::Right => Side::Left,
+            TextSide::Left => TextSide::Right,
+            TextSide::Right => TextSide::Left,
         }
     }
 
@@ -45,8 +45,8 @@ impl Side {
         ensures { result.now ≡ anchor self }
     {
         match self {
-            Side::Left => "e",
-            Side::Right => "s",
+            TextSide::Left => "e",
+            TextSide::Right => "s",
         }
     }
 
@@ -57,8 +57,8 @@ impl Side {
         ensures { result ≡ beside self x distance }
     {
         match self {
-            Side::Left => x - distance,
-            Side::Right => x + distance,
+            TextSide::Left => x - distance,
+            TextSide::Right => x + distance,
         }
     }
 }

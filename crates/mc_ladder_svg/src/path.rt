@@ -6,7 +6,7 @@ ghost use Rattle.mc_ladder_svg.specs.PathRows.{end_labels, end_labels_at, flow_l
 
 use crate::element::{put_beside, put_box_class, put_bytes, put_text};
 use crate::mark::is_last;
-use crate::measure::{COLUMN, PATH, Side, x_of};
+use crate::measure::{COLUMN, PATH, TextSide, x_of};
 use crate::route::{is_turned, left_of, put_ends, put_links, put_route, stops_drawn};
 use mc_ladder::{Ends, codec_word, ends_of, flow_word, is_stop, medium_word, put_word, slot_word};
 use mc_script::goal_word;
@@ -19,13 +19,13 @@ use std::alloc::{AllocError, Global};
 // ---- its ends
 
 // The side of the line of its box at which the words of the lower end stand.
-fn low_side(ends: Ends) -> Side
+fn low_side(ends: Ends) -> TextSide
     ensures { result ≡ low_side ends }
 {
     if is_turned(ends) {
-        Side::Right
+        TextSide::Right
     } else {
-        Side::Left
+        TextSide::Left
     }
 }
 
@@ -42,7 +42,7 @@ fn goal_words(alloc: Global, names: &Names, end: &EndView) -> Result<Vec<u8>, Al
 fn put_goal(
     alloc: Global,
     names: &Names,
-    side: Side,
+    side: TextSide,
     x: u128,
     end: &EndView,
     out: &mut Vec<u8>,
@@ -83,7 +83,7 @@ fn why_words(alloc: Global, whys: &[Option<u32>], end: &EndView) -> Result<Vec<u
 fn put_hears(
     alloc: Global,
     names: &Names,
-    side: Side,
+    side: TextSide,
     x: u128,
     end: &EndView,
     out: &mut Vec<u8>,
@@ -102,7 +102,7 @@ fn put_told(
     names: &Names,
     flowing: bool,
     whys: &[Option<u32>],
-    side: Side,
+    side: TextSide,
     x: u128,
     end: &EndView,
     out: &mut Vec<u8>,
@@ -122,7 +122,7 @@ fn put_end_at(
     names: &Names,
     flowing: bool,
     whys: &[Option<u32>],
-    side: Side,
+    side: TextSide,
     x: u128,
     end: &EndView,
     out: &mut Vec<u8>,
@@ -139,7 +139,7 @@ fn put_end(
     names: &Names,
     flowing: bool,
     whys: &[Option<u32>],
-    side: Side,
+    side: TextSide,
     column: usize,
     end: &EndView,
     out: &mut Vec<u8>,

@@ -15,7 +15,7 @@ use Rattle.mc_ladder_choice.specs.declared.choice.Span.{Span}
 use Rattle.mc_ladder_top.specs.declared.picture.Picture.{Picture}
 use Rattle.mc_ladder_top.specs.Words.{AreTaken, AskFor, AskForAny, asks_up_to_fault, ladder_command, picture_of, request_by, settles_of}
 use Rattle.mc_ladder_top.specs.Requests.{Requested, asked}
-use Rattle.mc_ladder_top.specs.declared.words.Request.{Request}
+use Rattle.mc_ladder_top.specs.declared.words.LadderRequest.{LadderRequest}
 
 -- its matches and its faults are known exactly
 is_free : is_simple_and_free ladder_command ≡ true
@@ -57,25 +57,25 @@ pub by_parts : (picture shown : Option Picture) (settles named : Option (Option 
     → request_by picture settles boxes up_to_fault ≡ request_by shown named boxes up_to_fault
 by_parts picture shown settles named boxes up_to_fault p s = ap₂ (λ (a : Option Picture) (b : Option (Option Span)). request_by a b boxes up_to_fault) p s
 
-pub asked_some : (words : List (String Global)) (read : Option Request) (request : Option Requested) → option_map (λ r. asked r) read ≡ request → AskForAny (map string_bytes words) request
+pub asked_some : (words : List (String Global)) (read : Option LadderRequest) (request : Option Requested) → option_map (λ r. asked r) read ≡ request → AskForAny (map string_bytes words) request
     → IfSome read (λ r. AskFor words (asked r))
 asked_some words None request is asks = tt
 asked_some words (Some r) request is asks = subst (AskForAny (map string_bytes words)) (sym is) asks
 
 -- where they ask for something, they are taken
-pub asked_taken : (words read_words : List (String Global)) (read : Option Request) (request : Request) → read_words ≡ words → read ≡ Some request → IfSome read (λ r. AskFor read_words (asked r))
+pub asked_taken : (words read_words : List (String Global)) (read : Option LadderRequest) (request : LadderRequest) → read_words ≡ words → read ≡ Some request → IfSome read (λ r. AskFor read_words (asked r))
     → AreTaken words
 asked_taken words read_words read request same is asks =
-    (asked request, subst (λ (w : List (String Global)). AskFor w (asked request)) same (subst (λ (o : Option Request). IfSome o (λ r. AskFor read_words (asked r))) is asks))
+    (asked request, subst (λ (w : List (String Global)). AskFor w (asked request)) same (subst (λ (o : Option LadderRequest). IfSome o (λ r. AskFor read_words (asked r))) is asks))
 
 -- where nothing was read of them, they aren't
-pub not_taken : (words read_words : List (String Global)) (read : Option Request) → read_words ≡ words → read ≡ None → IfNone read (AreTaken read_words → ⊥)
+pub not_taken : (words read_words : List (String Global)) (read : Option LadderRequest) → read_words ≡ words → read ≡ None → IfNone read (AreTaken read_words → ⊥)
     → AreTaken words → ⊥
 not_taken words read_words read same is none =
-    subst (λ (w : List (String Global)). AreTaken w → ⊥) same (subst (λ (o : Option Request). IfNone o (AreTaken read_words → ⊥)) is none)
+    subst (λ (w : List (String Global)). AreTaken w → ⊥) same (subst (λ (o : Option LadderRequest). IfNone o (AreTaken read_words → ⊥)) is none)
 
 -- where they ask for nothing, they aren't taken
-pub asked_none : (words : List (String Global)) (read : Option Request) (request : Option Requested) → option_map (λ r. asked r) read ≡ request → AskForAny (map string_bytes words) request
+pub asked_none : (words : List (String Global)) (read : Option LadderRequest) (request : Option Requested) → option_map (λ r. asked r) read ≡ request → AskForAny (map string_bytes words) request
     → IfNone read (AreTaken words → ⊥)
 asked_none words None request is asks = λ taken. let no : None ≡ Some taken.0 = is ∙ (sym asks.1 ∙ taken.1.1) in cc
 asked_none words (Some r) request is asks = tt
@@ -115,14 +115,14 @@ asks_so (Some picture) (Some settles) boxes up_to_fault request is =
 pub asks_for_flag : (words : List (String Global)) (request : Requested) → AskFor words request → request.up_to_fault ≡ asks_up_to_fault (map string_bytes words)
 asks_for_flag words request asks = asks_so _ _ _ _ request asks.1
 
-pub flag_of_read : (words read_words : List (String Global)) (read : Option Request) (request : Request) → read_words ≡ words → read ≡ Some request → IfSome read (λ r. AskFor read_words (asked r))
+pub flag_of_read : (words read_words : List (String Global)) (read : Option LadderRequest) (request : LadderRequest) → read_words ≡ words → read ≡ Some request → IfSome read (λ r. AskFor read_words (asked r))
     → request.up_to_fault ≡ asks_up_to_fault (map string_bytes words)
 flag_of_read words read_words read request same is asks =
-    asks_for_flag words (asked request) (subst (λ (w : List (String Global)). AskFor w (asked request)) same (subst (λ (o : Option Request). IfSome o (λ r. AskFor read_words (asked r))) is asks))
+    asks_for_flag words (asked request) (subst (λ (w : List (String Global)). AskFor w (asked request)) same (subst (λ (o : Option LadderRequest). IfSome o (λ r. AskFor read_words (asked r))) is asks))
 
 -- and they ask for this request alone
-pub asked_same : (words read_words : List (String Global)) (read : Option Request) (request : Request) (wanted : Requested) → read_words ≡ words → read ≡ Some request → IfSome read (λ r. AskFor read_words (asked r)) → AskFor words wanted
+pub asked_same : (words read_words : List (String Global)) (read : Option LadderRequest) (request : LadderRequest) (wanted : Requested) → read_words ≡ words → read ≡ Some request → IfSome read (λ r. AskFor read_words (asked r)) → AskFor words wanted
     → asked request ≡ wanted
 asked_same words read_words read request wanted same is asks wants =
-    let mine : AskFor words (asked request) = subst (λ (w : List (String Global)). AskFor w (asked request)) same (subst (λ (o : Option Request). IfSome o (λ r. AskFor read_words (asked r))) is asks) in
+    let mine : AskFor words (asked request) = subst (λ (w : List (String Global)). AskFor w (asked request)) same (subst (λ (o : Option LadderRequest). IfSome o (λ r. AskFor read_words (asked r))) is asks) in
     same_Some (asked request) wanted (sym mine.1 ∙ wants.1)

@@ -4,7 +4,7 @@ use Rattle.mc_ladder_choice.specs.declared.choice.Span.{Span}
 use Rattle.mc_ladder_choice.specs.Choices.{ChoiceState}
 use Rattle.mc_text.specs.NameLists.{NameLists, place_of}
 use Rattle.mc_ladder_top.specs.declared.picture.Picture.{Picture}
-use Rattle.mc_ladder_top.specs.declared.words.Request.{Request}
+use Rattle.mc_ladder_top.specs.declared.words.LadderRequest.{LadderRequest}
 
 -- the form of the ladder, the settles that are drawn, where not all, the names of the boxes, where not all, and whether
 -- a faulty journal is drawn up to its first fault
@@ -15,7 +15,7 @@ pub record Requested : Type 0 where
   pub up_to_fault : Bool
 
 -- the same as the words have it
-abbrev pub asked : Request → Requested
+abbrev pub asked : LadderRequest → Requested
 asked request = record {
   picture = request.picture;
   settles = request.settles;

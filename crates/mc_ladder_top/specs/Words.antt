@@ -26,7 +26,7 @@ ladder_command =
     let named = new_app (codes "medialadder") in
     let bare : App = record named { top = record named.top { no_binary_name = true; disable_help_flag = true } } in
     let forms =
-        with_rule (with_rule (with_rule bare (flag (codes "ascii"))) (flag (codes "svg"))) (flag (codes "html")) in
+    with_rule (with_rule (with_rule bare (flag (codes "ascii"))) (flag (codes "svg"))) (flag (codes "html")) in
     let flags = with_rule forms (flag (codes "up-to-fault")) in
     with_rule (with_rule flags (valued (codes "settles"))) (valued (codes "box"))
 

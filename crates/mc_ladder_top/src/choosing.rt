@@ -4,7 +4,7 @@ ghost use Rattle.std.specs.Prelude.{◌≡◌, ◌++◌, [], filter_map, map, op
 ghost use Rattle.std.specs.List.{cons_option};
 ghost use Rattle.mc_ladder_top.specs.Requests.{asked, box_named, choice_of, unknown_in};
 
-use crate::words::Request;
+use crate::words::LadderRequest;
 use mc_ladder_choice::Choice;
 use mc_text::Names;
 use std::alloc::{AllocError, Global};
@@ -52,7 +52,11 @@ fn add_named(names: &Names, name: &str, boxes: &mut Vec<u32>) -> Result<(), Allo
 }
 
 // What is chosen of a journal, by the names of a network.
-pub fn choice_of(alloc: Global, names: &Names, request: &Request) -> Result<Choice, AllocError>
+pub fn choice_of(
+    alloc: Global,
+    names: &Names,
+    request: &LadderRequest,
+) -> Result<Choice, AllocError>
     ensures { IfOk result (λ choice. choice ≡ choice_of names.now (asked request.now)) }
 {
     Ok(Choice {

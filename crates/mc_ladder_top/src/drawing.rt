@@ -17,7 +17,7 @@ ghost use Rattle.mc_top.specs.Refusals.{RefusesCheckBy};
 
 use crate::choosing::choice_of;
 use crate::picture::{Picture, draw};
-use crate::words::Request;
+use crate::words::LadderRequest;
 use mc_ladder_choice::{Choice, Survey, look_through};
 use mc_ladder_page::draw_page;
 use mc_net::{Net, NetFault, Tail, read_blocks, read_net};
@@ -38,7 +38,7 @@ pub struct Drawn {
 // Checks the journal after a text by the network that the text declares, and draws what is asked for of it.
 pub fn draw_checked(
     alloc: Global,
-    request: &Request,
+    request: &LadderRequest,
     text: &[u8],
     net: Net,
 ) -> Result<Drawn, TailFault>
@@ -63,7 +63,7 @@ pub fn draw_checked(
 // to look through the journal, once to draw the ladder, and once for the page round it, if there is one.
 pub fn draw_journal(
     alloc: Global,
-    request: &Request,
+    request: &LadderRequest,
     text: &[u8],
     journal: &[JournalLine],
 ) -> Result<Vec<u8>, AllocError>
@@ -88,7 +88,7 @@ struct Chosen {
 // What is asked for of the journal after a text.
 fn choose_in_text(
     alloc: Global,
-    request: &Request,
+    request: &LadderRequest,
     text: &[u8],
     journal: &[JournalLine],
 ) -> Result<Chosen, AllocError>
@@ -106,7 +106,7 @@ fn choose_in_text(
 // The same by a network.
 fn choose_by_net(
     alloc: Global,
-    request: &Request,
+    request: &LadderRequest,
     mut net: Net,
     journal: &[JournalLine],
 ) -> Result<Chosen, AllocError>
@@ -124,7 +124,7 @@ fn choose_by_net(
 // The same by names, and the first world.
 fn choose(
     alloc: Global,
-    request: &Request,
+    request: &LadderRequest,
     names: &Names,
     world: &mut World,
     journal: &[JournalLine],

@@ -11,7 +11,7 @@ ghost use Rattle.mc_script.specs.Places.{Fits};
 
 use crate::drawing::{draw_journal, net_of};
 use crate::picture::Picture;
-use crate::words::Request;
+use crate::words::LadderRequest;
 use mc_call::{TailPlace, journal_behind, print_journal_fault};
 use mc_net::Net;
 use mc_replay::{ReplayFault, Viewer, check_lines};
@@ -105,7 +105,7 @@ fn fault_note(alloc: Global, picture: Picture, place: TailPlace) -> Result<Vec<u
 // Draws what is asked for of the journal after a text up to its first fault, and says which that is.
 pub fn draw_up_to_fault(
     alloc: Global,
-    request: &Request,
+    request: &LadderRequest,
     text: &[u8],
     place: TailPlace,
 ) -> Result<Vec<u8>, AllocError>

@@ -12,4 +12,4 @@ mod words;
 
 pub use picture::Picture;
 pub use top::ladder_top;
-pub use words::{Request, read_request};
+pub use words::{LadderRequest, read_request};

@@ -23,7 +23,7 @@ ghost use Rattle.mc_call.specs.Calls.{GivesUp, HasReadWhole, PrintsUsage};
 use crate::choosing::unknown_in;
 use crate::drawing::{Drawn, draw_checked};
 use crate::faulty::draw_up_to_fault;
-use crate::words::{Request, read_request};
+use crate::words::{LadderRequest, read_request};
 use mc_call::status::{JOURNAL_FAULT, NO_BOX, NO_MEMORY, READ_FAULT, USAGE, WORKED, WRITE_FAULT};
 use mc_call::{
     Done, TailPlace, deliver, give_up, refuse_journal, refuse_name, refuse_text, refuse_words,
@@ -40,7 +40,7 @@ const CHECKING: Mode = Mode::Check { why: false };
 // Writes the ladder of a journal up to its first fault, and what is said of the fault after it.
 fn write_up_to_fault<K: Sink>(
     alloc: Global,
-    request: &Request,
+    request: &LadderRequest,
     text: &[u8],
     place: TailPlace,
     sink: &mut K,
@@ -69,7 +69,7 @@ fn write_up_to_fault<K: Sink>(
 // Refuses a journal as `check` does, or draws it up to its first fault, where that is asked for.
 fn refuse_or_draw<K: Sink>(
     alloc: Global,
-    request: &Request,
+    request: &LadderRequest,
     text: &[u8],
     place: TailPlace,
     sink: &mut K,
@@ -93,7 +93,13 @@ fn refuse_or_draw<K: Sink>(
 }
 
 // Checks the journal after a text by the network that the text declares, and draws it.
-fn draw_net<K: Sink>(alloc: Global, request: &Request, text: &[u8], net: Net, sink: &mut K) -> Done
+fn draw_net<K: Sink>(
+    alloc: Global,
+    request: &LadderRequest,
+    text: &[u8],
+    net: Net,
+    sink: &mut K,
+) -> Done
     requires short { length text.now ≤ read_limit Journal }
     requires declares { DeclaresNet Journal text.now net }
     requires named { NamesAll net.names net.world }
@@ -115,7 +121,7 @@ fn draw_net<K: Sink>(alloc: Global, request: &Request, text: &[u8], net: Net, si
 // The same where the text may have no box of a name that is asked for.
 fn draw_known<K: Sink>(
     alloc: Global,
-    request: &Request,
+    request: &LadderRequest,
     text: &[u8],
     net: Net,
     sink: &mut K,
@@ -140,7 +146,7 @@ fn draw_known<K: Sink>(
 }
 
 // The same for a text, which may have a fault.
-fn draw_text<K: Sink>(alloc: Global, request: &Request, text: &[u8], sink: &mut K) -> Done
+fn draw_text<K: Sink>(alloc: Global, request: &LadderRequest, text: &[u8], sink: &mut K) -> Done
     requires short { length text.now ≤ read_limit Journal }
     ensures ends { EndsDrawing (asked request.now) (Some text.now) (K.written sink.old) (K.written sink.new) result }
     ensures journal { IsFalse (keeps_journal result.due) → result.journal.items ≡ [] }
@@ -157,7 +163,7 @@ fn draw_text<K: Sink>(alloc: Global, request: &Request, text: &[u8], sink: &mut 
 // The same for the text that a source has left.
 fn draw_source<S: Source, K: Sink>(
     alloc: Global,
-    request: &Request,
+    request: &LadderRequest,
     source: &mut S,
     sink: &mut K,
 ) -> Done

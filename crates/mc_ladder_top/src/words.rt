@@ -17,7 +17,7 @@ use std::alloc::{AllocError, Global};
 /// What is asked for: the form of the ladder, the settles that are drawn, where not all, the names of the boxes, where
 /// not all, and whether a faulty journal is drawn up to its first fault.
 #[derive(Drop)]
-pub struct Request<'a> {
+pub struct LadderRequest<'a> {
     pub picture: Picture,
     pub settles: Option<Span>,
     pub boxes: Vec<&'a str>,
@@ -32,7 +32,7 @@ pub struct Request<'a> {
 pub fn read_request<'a>(
     alloc: Global,
     words: &'a [String],
-) -> Result<Option<Request<'a>>, AllocError>
+) -> Result<Option<LadderRequest<'a>>, AllocError>
     ensures some { IfOk result (λ read. IfSome read (λ request. AskFor words.now (asked request))) }
     ensures none { IfOk result (λ read. IfNone read (¬ AreTaken words.now)) }
 {
@@ -167,13 +167,13 @@ fn request_by<'a>(
     settles: Option<Option<Span>>,
     boxes: Vec<&'a str>,
     up_to_fault: bool,
-) -> Option<Request<'a>>
+) -> Option<LadderRequest<'a>>
     ensures { option_map (λ request. asked request) result
         ≡ request_by picture settles (map (λ name. name.now) boxes.entry.items) up_to_fault }
 {
     let picture = picture?;
     let settles = settles?;
-    Some(Request {
+    Some(LadderRequest {
         picture,
         settles,
         boxes,
@@ -182,7 +182,7 @@ fn request_by<'a>(
 }
 
 // What stands for an error of the parser: want of memory is one, and a refusal of the words is none.
-fn none_unless_memory<'a>(error: &Error) -> Result<Option<Request<'a>>, AllocError>
+fn none_unless_memory<'a>(error: &Error) -> Result<Option<LadderRequest<'a>>, AllocError>
     ensures { IfOk result (λ read. (read ≡ None) × (kind_of error.now ≢ ErrorKind.OutOfMemory)) }
 {
     if matches!(error.kind(), ErrorKind::OutOfMemory) {

@@ -46,7 +46,7 @@ pub type Piece = (u32, &'static str);
 
 /// How a call ended, what it wrote, and how far it read.
 #[derive(Drop)]
-pub struct Ended {
+pub struct CallEnd {
     pub done: Done,
     pub written: Vec<u8>,
     pub reads: u64,
@@ -104,13 +104,13 @@ pub fn call<R: Threads + Sync, G: Gate + Sync>(
     text: &[u8],
     failing_read: u64,
     failing_write: u64,
-) -> Result<Ended, AllocError> {
+) -> Result<CallEnd, AllocError> {
     let mut source = source_of(alloc, text, failing_read)?;
     let mut sink = sink_of(alloc, failing_write)?;
     let words = words_of(alloc, words)?;
     let done = top(rt, alloc, words, &mut source, &mut sink, gate);
     let MemSink { bytes, .. } = sink;
-    Ok(Ended {
+    Ok(CallEnd {
         done,
         written: bytes,
         reads: source.calls,
@@ -124,7 +124,7 @@ pub fn answered<R: Threads + Sync>(
     alloc: Global,
     words: &[&str],
     text: &[u8],
-) -> Result<Ended, AllocError> {
+) -> Result<CallEnd, AllocError> {
     call(rt, alloc, &OpenGate, words, text, 0, 0)
 }
 

@@ -1,4 +1,4 @@
-// Drawn scripts of networks that grow and shrink, beside the networks of all channels that ever join, laid out from the
+// DrawnScript scripts of networks that grow and shrink, beside the networks of all channels that ever join, laid out from the
 // beginning: both print the same paths of the channels that are in.
 
 use super::{answered, is_equal_at};
@@ -52,7 +52,7 @@ enum Use {
 
 // A channel, and the settles from which on it is in and is out.
 #[derive(Clone, Copy, Debug)]
-struct Drawn {
+struct DrawnScript {
     number: u32,
     phone: u32,
     far: Far,
@@ -61,7 +61,7 @@ struct Drawn {
     cut: u32,
 }
 
-impl Drawn {
+impl DrawnScript {
     fn is_in(&self, settle: u32) -> bool {
         self.joined <= settle && settle < self.cut
     }
@@ -73,14 +73,14 @@ impl Drawn {
 
     // Whether a line is of a path that begins at it.
     fn begins(&self, alloc: Global, line: &[u8]) -> Result<bool, AllocError> {
-        let Drawn { number, phone, .. } = self;
+        let DrawnScript { number, phone, .. } = self;
         let path = format!(in alloc; "path p{phone}/s{number} ")?;
         Ok(line.starts_with(path.as_bytes()))
     }
 
     // The line that lays it out or joins it, after its first word.
     fn words(&self, alloc: Global) -> Result<String, AllocError> {
-        let Drawn { number, phone, .. } = self;
+        let DrawnScript { number, phone, .. } = self;
         match self.far {
             Far::Phone(other) => format!(in alloc; "audio p{phone} s{number} p{other} s{number}\n"),
             Far::Feature => format!(in alloc; "audio p{phone} s{number} f s{number}\n"),
@@ -92,7 +92,7 @@ impl Drawn {
 #[derive(Drop)]
 struct Script {
     numbers: Numbers,
-    channels: Vec<Drawn>,
+    channels: Vec<DrawnScript>,
     count: u32,
     laid: String,
     grown: String,
@@ -130,7 +130,7 @@ impl Script {
             0 => Far::Feature,
             _ => Far::Phone(self.other_phone(phone)),
         };
-        let channel = Drawn {
+        let channel = DrawnScript {
             number: self.count,
             phone,
             far,
@@ -151,7 +151,7 @@ impl Script {
 
 impl Script {
     // The channel of this number, if there is one.
-    fn channel(&self, number: u32) -> Option<Drawn> {
+    fn channel(&self, number: u32) -> Option<DrawnScript> {
         self.channels.get(number as usize).copied()
     }
 
@@ -176,8 +176,13 @@ impl Script {
     }
 
     // A phone opens a channel, or holds it, or closes it.
-    fn set_phone(&mut self, alloc: Global, channel: Drawn, goal: &str) -> Result<(), AllocError> {
-        let Drawn { number, phone, .. } = channel;
+    fn set_phone(
+        &mut self,
+        alloc: Global,
+        channel: DrawnScript,
+        goal: &str,
+    ) -> Result<(), AllocError> {
+        let DrawnScript { number, phone, .. } = channel;
         let line = format!(in alloc; "set p{phone} s{number} {goal}\n")?;
         self.command(line.as_str())
     }
@@ -191,7 +196,7 @@ impl Script {
     }
 
     // One phone calls the other over a channel.
-    fn call(&mut self, alloc: Global, channel: Drawn, other: u32) -> Result<(), AllocError> {
+    fn call(&mut self, alloc: Global, channel: DrawnScript, other: u32) -> Result<(), AllocError> {
         let number = channel.number;
         self.set_use(number, Use::Call);
         self.set_phone(alloc, channel, "open")?;
@@ -201,7 +206,7 @@ impl Script {
     }
 
     // The first channel after one that leads to the feature, which nobody uses.
-    fn partner(&self, number: u32, settle: u32) -> Option<Drawn> {
+    fn partner(&self, number: u32, settle: u32) -> Option<DrawnScript> {
         self.channels
             .iter()
             .find(|other| other.number > number && other.is_free(settle, true))
@@ -209,7 +214,12 @@ impl Script {
     }
 
     // One phone calls another through the feature.
-    fn call_through(&mut self, alloc: Global, one: Drawn, other: Drawn) -> Result<(), AllocError> {
+    fn call_through(
+        &mut self,
+        alloc: Global,
+        one: DrawnScript,
+        other: DrawnScript,
+    ) -> Result<(), AllocError> {
         self.set_use(one.number, Use::Linked(other.number));
         self.set_use(other.number, Use::Linked(one.number));
         let link = format!(in alloc; "link f s{} s{}\n", one.number, other.number)?;
@@ -220,7 +230,12 @@ impl Script {
     }
 
     // A call may begin over a channel that nobody uses.
-    fn begin(&mut self, alloc: Global, channel: Drawn, settle: u32) -> Result<(), AllocError> {
+    fn begin(
+        &mut self,
+        alloc: Global,
+        channel: DrawnScript,
+        settle: u32,
+    ) -> Result<(), AllocError> {
         match channel.far {
             Far::Phone(other) => self.call(alloc, channel, other),
             Far::Feature => match self.partner(channel.number, settle) {
@@ -231,7 +246,7 @@ impl Script {
     }
 
     // The end of a channel that is no phone's is closed.
-    fn close_far(&mut self, alloc: Global, channel: Drawn) -> Result<(), AllocError> {
+    fn close_far(&mut self, alloc: Global, channel: DrawnScript) -> Result<(), AllocError> {
         let number = channel.number;
         let line = match channel.far {
             Far::Phone(other) => format!(in alloc; "set p{other} s{number} close\n")?,
@@ -241,14 +256,14 @@ impl Script {
     }
 
     // Both ends of a channel are closed, and nobody uses it.
-    fn close(&mut self, alloc: Global, channel: Drawn) -> Result<(), AllocError> {
+    fn close(&mut self, alloc: Global, channel: DrawnScript) -> Result<(), AllocError> {
         self.set_use(channel.number, Use::Free);
         self.set_phone(alloc, channel, "close")?;
         self.close_far(alloc, channel)
     }
 
     // A call ends.
-    fn end(&mut self, alloc: Global, channel: Drawn) -> Result<(), AllocError> {
+    fn end(&mut self, alloc: Global, channel: DrawnScript) -> Result<(), AllocError> {
         self.close(alloc, channel)?;
         if let Use::Linked(number) = channel.used {
             if let Some(other) = self.channel(number) {

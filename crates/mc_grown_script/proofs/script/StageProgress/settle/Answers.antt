@@ -10,7 +10,7 @@ use Rattle.mc_rounds.specs.Stops.{Stops}
 use Rattle.mc_grown_script.proofs.Names.{after_settle, has_names}
 use Rattle.mc_settle_text.proofs.Named.{fault_named}
 use Rattle.mc_grown_script.proofs.Stopping.{stops_by}
-use Rattle.mc_grown_script.proofs.script.Progress.settle.Goals as goal
+use Rattle.mc_grown_script.proofs.script.StageProgress.settle.Goals as goal
 
 pub put_network-requires-clause-named : goal.put_network-requires-clause-named
 put_network-requires-clause-named g c =

@@ -14,7 +14,7 @@ use Rattle.mc_table.specs.Words.{line_of}
 use Rattle.mc_text.specs.NameLists.{slot_word}
 use Rattle.mc_grown_script.proofs.Names.{boxes_stay, cut_named}
 use Rattle.mc_grown_script.proofs.Stopping.{came_of, stopped_at_cut}
-use Rattle.mc_grown_script.proofs.script.Progress.run_plan.Goals as goal
+use Rattle.mc_grown_script.proofs.script.StageProgress.run_plan.Goals as goal
 
 pub settle-requires-clause-few : goal.settle-requires-clause-few
 settle-requires-clause-few g c κs within =
