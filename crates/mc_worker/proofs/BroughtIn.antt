@@ -40,11 +40,6 @@ ring_pair outs ins i j from to h k e f same =
     let both : Some (out_ring from) ≡ Some (in_ring to) = sym (at_of out_ring outs i from h e) ∙ (same ∙ at_of in_ring ins j to k f) in
     cc
 
--- the same is under way between the same ends
-pub same_under_way : (o o' p p' : OutEnd) (i i' j j' : InEnd) → o ≡ o' → p ≡ p' → i ≡ i' → j ≡ j' → under_way_between p' j' ≡ under_way_between o' i' → under_way_between p j ≡ under_way_between o i
-same_under_way o o' p p' i i' j j' eo ep ei ej kept =
-    ap (λ (x : OutEnd). under_way_between x j) ep ∙ (ap (under_way_between p') ej ∙ (kept ∙ (ap (under_way_between o') (sym ei) ∙ ap (λ (x : OutEnd). under_way_between x i) (sym eo))))
-
 -- ---- the law
 
 plain : (items : List Tagged) → map without_stamp (map unclaimed items) ≡ items

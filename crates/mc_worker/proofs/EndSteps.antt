@@ -4,10 +4,10 @@ use Rattle.std.proofs.lemmas.Grind.{common_steps}
 use Rattle.std.proofs.lemmas.List.{append-nil, map-set}
 use Rattle.std.specs.Option.{option_to_list}
 use mathlib.Core.List.{IsPrefix}
-use Rattle.mc_port.specs.Tunnels.{Tunnels, event_sends, sent_if, tunnel_if_at}
+use Rattle.mc_port.specs.Tunnels.{Tunnels, event_sends, sent_if}
 use Rattle.mc_signal.specs.declared.Signal.{Signal}
 use Rattle.mc_signal.specs.declared.Tagged.{Tagged}
-use Rattle.mc_port.specs.Ends.{KnowsNothing, back_count, free_places, given, known, look_count, one_more_back, received}
+use Rattle.mc_port.specs.Ends.{IsGiven, IsHandedBack, KnowsNothing, back_count, free_places, given, known, look_count, received}
 use Rattle.mc_port.specs.declared.stamped.Stamped.{Stamped}
 use Rattle.mc_port.specs.declared.ends.OutPort.{OutPort}
 use Rattle.mc_port.specs.declared.ends.InPort.{InPort}
@@ -79,33 +79,31 @@ pub out_kept : (ports : List OutPort) (boxes new : List (List Stamped)) (i : ℕ
 out_kept ports boxes new i item some more others s = kept_by (i == s) ports boxes new i s item refl some more others
 
 -- the ring took the item
-pub gave : (p0 p : OutPort) (box : List Stamped) (item : Stamped) → box ≡ [] → given p ≡ given p0 ++ item ∷ [] → free_places p0 ≤ free_places p + 1 → back_count p ≡ back_count p0
-    → OutAccount (out_end_of p0 box) (out_end_of p box) (item ∷ [])
-gave p0 p box item none more places same = record {
+pub gave : (p0 p : OutPort) (box : List Stamped) (item : Stamped) → box ≡ [] → IsGiven p0 p item → OutAccount (out_end_of p0 box) (out_end_of p box) (item ∷ [])
+gave p0 p box item none put = record {
   put = item ∷ [];
   kept = [];
-  ring = more;
+  ring = put.items;
   outbox = sym (append-nil box);
   order = refl;
-  back = same;
+  back = put.count;
   waits = λ some. absurd (some none);
   full = λ h some. absurd (some refl);
-  places = places;
+  places = put.places;
 }
 
 -- the ring was full
-pub handed_back : (p0 p : OutPort) (box new : List Stamped) (item : Stamped) → box ≡ [] → given p ≡ given p0 → free_places p0 ≡ 0 → free_places p ≡ 0 → back_count p ≡ one_more_back (back_count p0) → new ≡ box ++ item ∷ []
-    → OutAccount (out_end_of p0 box) (out_end_of p new) (item ∷ [])
-handed_back p0 p box new item none same before now counted more = record {
+pub handed_back : (p0 p : OutPort) (box new : List Stamped) (item back : Stamped) → box ≡ [] → IsHandedBack p0 p item back → new ≡ box ++ item ∷ [] → OutAccount (out_end_of p0 box) (out_end_of p new) (item ∷ [])
+handed_back p0 p box new item back none came more = record {
   put = [];
   kept = item ∷ [];
-  ring = same ∙ sym (append-nil (given p0));
+  ring = came.items ∙ sym (append-nil (given p0));
   outbox = more;
   order = refl;
-  back = counted ∙ ap (λ (l : List Stamped). back_after (item ∷ []) l (back_count p0)) (sym none);
+  back = came.count ∙ ap (λ (l : List Stamped). back_after (item ∷ []) l (back_count p0)) (sym none);
   waits = λ some. absurd (some none);
-  full = λ h some. now;
-  places = omega (arith, before);
+  full = λ h some. came.full;
+  places = let before = came.full_before in omega (arith, before);
 }
 
 sent_by_test : (test : Bool) (tunnel stamp : ℕ) (signal : Signal) → sent_if (if test then Some tunnel else None) stamp signal ≡ (if test then record { stamp = stamp; tunnel = tunnel; signal = signal } ∷ [] else [])

@@ -4,6 +4,7 @@ use Rattle.std.specs.Int.{bit_at, bit_not, trailing_zeros}
 use Rattle.std.specs.Int.Bits.{bit_and}
 use Rattle.std.specs.Int.RustNames.{bit_or}
 use Rattle.std.proofs.lemmas.Bool.{cases_eq, cases_lt}
+use Rattle.std.proofs.lemmas.List.{length-map, length-set}
 use Rattle.std.proofs.lemmas.Nat.{and_le_l}
 use Rattle.std.proofs.lemmas.Nat.Bits.{bit_at-lt, bit_at-trailing_zeros, bit_at-zero, bit_at_above, bit_at_clear_other, bit_at_clear_same, bit_at_set_other, bit_at_set_same, same_from_bits}
 use Rattle.std.proofs.lemmas.Simd.{bit_mask_l, ones-mask_l}
@@ -37,6 +38,12 @@ box_set {X} queues i queue inside = at_set (λ (q : Queue X). q.items) queues i 
 
 pub box_else : {X : Type 0} (queues : List (Queue X)) (i s : ℕ) (queue : Queue X) → s ≢ i → box_of (items_of (slice_set queues i queue)) s ≡ box_of (items_of queues) s
 box_else {X} queues i s queue off = at_other (λ (q : Queue X). q.items) queues i s queue [] off
+
+-- there are as many boxes as before
+pub box_count : {X : Type 0} (queues : List (Queue X)) (i : ℕ) (queue : Queue X) → length (items_of (slice_set queues i queue)) ≡ length (items_of queues)
+box_count {X} queues i queue =
+    let items = λ (q : Queue X). q.items in
+    length-map (slice_set queues i queue) items ∙ (length-set queues i queue ∙ sym (length-map queues items))
 
 -- one empty queue more
 pub empty_more : {X : Type 0} (queues : List (Queue X)) (queue : Queue X) → AreEmpty (items_of queues) → queue.items ≡ [] → AreEmpty (items_of (queues ++ queue ∷ []))

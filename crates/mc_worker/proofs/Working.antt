@@ -16,7 +16,7 @@ use Rattle.mc_worker.specs.Account.{IsAccount, in_at, owed_below, owed_retry_of}
 use Rattle.mc_worker.specs.Ends.{InAccount, InEnd, IsIdle, Passed, next_in, unclaimed}
 use Rattle.mc_worker.specs.Boxes.{AreEmpty, box_of}
 use Rattle.mc_worker.specs.Rounds.{AllIdle, HasWaitingWork, HasWork, HasStopped, IsRound, OwesRetry, by_retry, by_shift, by_signal, by_stimulus, waiting_retry, waiting_shift, waiting_signal, waiting_stimulus}
-use Rattle.mc_worker.specs.Turns.{AllPassed, is_memory}
+use Rattle.mc_worker.specs.Turns.{AllPassed, IsNextAt, is_memory}
 use Rattle.mc_worker.specs.declared.stop.RoundEnd.{RoundEnd}
 use Rattle.mc_worker.specs.declared.stop.Stop.{Stop}
 use Rattle.mc_worker.specs.declared.stop.Stop.TheVariants.{Rested}
@@ -47,10 +47,10 @@ no_work retries a b none cant unowed idle (by_retry on owes) = unowed (on, owes)
 
 -- there is work just where something is found at an end, where there is nothing else
 pub work_found : (found : Option (ℕ × Stamped)) (retries : Bool) (a b : Worker) (passed : ℕ) → b.stimuli.items ≡ [] → NoShift b → (IsTrue retries × OwesRetry b.part → ⊥)
-    → length b.ins.items ≡ length a.ins.items → IfSome found (λ f. f.0 < length a.ins.items) → IfSome found (λ f. next_in (in_at b f.0) ≡ Some f.1) → IfNone found (passed ≡ length a.ins.items)
+    → length b.ins.items ≡ length a.ins.items → IfSome found (IsNextAt b passed) → IfNone found (passed ≡ length a.ins.items)
     → AllPassed 0 passed a b → MatchBool (is_some found) (HasWork retries b) (HasWork retries b → ⊥)
-work_found (Some f) retries a b passed none cant unowed ports there next last all = by_signal f.0 f.1 (omega (arith, there, ports)) next
-work_found None retries a b passed none cant unowed ports there next last all = no_work retries a b none cant unowed (λ e h. all e (omega (arith, last, ports, h)))
+work_found (Some f) retries a b passed none cant unowed ports next last all = by_signal f.0 f.1 next.there next.next
+work_found None retries a b passed none cant unowed ports next last all = no_work retries a b none cant unowed (λ e h. all e (omega (arith, last, ports, h)))
 
 -- ---- what waits before any ring is looked at
 

@@ -1,5 +1,5 @@
 -- The inboxes and the outboxes of a box's channel ends, each by its end's number.
-use Rattle.std.specs.Prelude.{◌≡◌, ℕ, ◌<◌, ◌≤◌, Bool, List, [], length, map, nat_lt, slice_index, slice_index_or}
+use Rattle.std.specs.Prelude.{◌≡◌, ◌≢◌, ℕ, ◌<◌, ◌≤◌, Bool, List, [], length, map, nat_lt, slice_index, slice_index_or}
 use Rattle.mc_lane.specs.Queue.{Queue}
 use Rattle.mc_port.specs.declared.stamped.Stamped.{Stamped}
 use Rattle.mc_signal.specs.declared.Tagged.{Tagged}
@@ -13,6 +13,11 @@ items_of {A} queues = map (λ (queue : Queue A). queue.items) queues
 -- what is in the box of an end: nothing past the last end
 abbrev pub box_of : {A : Type 0} → List (List A) → ℕ → List A
 box_of boxes end = slice_index_or boxes end []
+
+-- no box but that of one end changed
+pub record ChangesOnlyBox {A : Type 0} (old new : List (List A)) (end : ℕ) : Type 0 where
+  pub others : (e : ℕ) → e ≢ end → box_of new e ≡ box_of old e
+  pub count : length new ≡ length old
 
 abbrev pub has_items : {A : Type 0} → List A → Bool
 has_items items = nat_lt 0 (length items)

@@ -1,5 +1,5 @@
 -- What a round answers, why it ends, and whether there is work for one.
-use Rattle.std.specs.Prelude.{◌≡◌, ◌≢◌, ◌⊎◌, Bool, false, IsTrue, ℕ, ◌<◌, List, [], length, None, Some, MatchOption, slice_get}
+use Rattle.std.specs.Prelude.{◌≡◌, ◌≢◌, ◌⊎◌, Bool, false, IsTrue, ℕ, ◌+◌, ◌<◌, List, [], length, Option, None, Some, IfNone, IfSome, MatchOption, slice_get}
 use Rattle.mc_box.specs.BoxEvents.{is_enabled, is_take, is_version_end}
 use Rattle.mc_box.specs.Boxes.{BoxState, slot_at}
 use Rattle.mc_box.specs.declared.event.Event.{Event}
@@ -11,7 +11,7 @@ use Rattle.mc_port.specs.declared.stamped.Stamped.{Stamped}
 use Rattle.mc_slot.specs.Moves.{slot_take}
 use Rattle.mc_worker.specs.Account.{IsAccount, in_at}
 use Rattle.mc_worker.specs.Ends.{IsIdle, next_in}
-use Rattle.mc_worker.specs.Turns.{BeginsByStimulus, is_memory}
+use Rattle.mc_worker.specs.Turns.{AreTurns, BeginsByStimulus, IsUnderWay, is_memory}
 use Rattle.mc_worker.specs.declared.limit.TheConstants.{STAMP_LIMIT}
 use Rattle.mc_worker.specs.declared.progress.Progress.{Progress}
 use Rattle.mc_worker.specs.declared.stop.RoundEnd.{RoundEnd}
@@ -50,6 +50,15 @@ HasStopped Idle worker (Strange end tunnel) =
 -- why a turn wasn't made, where the round has come so far: it has passed all ends where nothing is left
 abbrev pub HasStoppedAt : Progress → Worker → Stop → Type 0
 HasStoppedAt progress worker stop = HasStopped (progress.passed ≡ length worker.ins.items) worker stop
+
+-- one turn was made, or none, and why; either way the worker goes on with the round
+pub record HasTurned (a b : Worker) (s t : Progress) (result : Option Stop) : Type 0 where
+  pub turns : AreTurns a b s t
+  pub under_way : IsUnderWay b t
+  pub ports : length b.ins.items ≡ length a.ins.items
+  pub made : IfNone result (t.turns ≡ s.turns + 1)
+  pub stopped : IfSome result (λ stop. t.turns ≡ s.turns)
+  pub cause : IfSome result (HasStoppedAt t b)
 
 -- nothing is left at any end, and each ring was looked at
 abbrev pub AllIdle : Worker → Worker → Type 0

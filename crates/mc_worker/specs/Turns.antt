@@ -11,7 +11,7 @@ use Rattle.mc_port.specs.declared.stamped.Stamped.{Stamped}
 use Rattle.mc_signal.specs.declared.Signal.{Signal}
 use Rattle.mc_worker.specs.Account.{IsWork, in_at, owed_below}
 use Rattle.mc_worker.specs.Boxes.{AreEmpty}
-use Rattle.mc_worker.specs.Ends.{Passed}
+use Rattle.mc_worker.specs.Ends.{Passed, next_in}
 use Rattle.mc_worker.specs.Ready.{IsReady}
 use Rattle.mc_worker.specs.declared.limit.TheConstants.{FIRST_STAMP_LIMIT, TURN_LIMIT}
 use Rattle.mc_worker.specs.declared.progress.Progress.{Progress}
@@ -84,7 +84,27 @@ pub record IsUnderWay (worker : Worker) (progress : Progress) : Type 0 where
   pub stamp : worker.stamp ≤ FIRST_STAMP_LIMIT + progress.turns
   pub empty : 0 < progress.passed → AreEmpty worker.inboxes
 
+-- ---- what is looked at
+
+-- nothing changed but what the ends know of their rings, and how often they looked
+pub record OnlyLooks (a b : Worker) : Type 0 where
+  pub work : IsWork a b []
+  pub same : b ≡ record a { ins = b.ins }
+  pub ports : length b.ins.items ≡ length a.ins.items
+
+-- an end that wasn't passed, and what is next there
+pub record IsNextAt (worker : Worker) (passed : ℕ) (found : ℕ × Stamped) : Type 0 where
+  pub there : found.0 < length worker.ins.items
+  pub next : next_in (in_at worker found.0) ≡ Some found.1
+  pub ahead : passed ≤ found.0
+
 -- ---- turns
+
+-- no way in changed, and the box has as many slots as before
+pub record TakesNothing (a b : Worker) : Type 0 where
+  pub ins : (end : ℕ) → in_at b end ≡ in_at a end
+  pub ports : length b.ins.items ≡ length a.ins.items
+  pub slots : length b.part.slots ≡ length a.part.slots
 
 -- one turn, of an event that takes nothing
 pub record IsOneTurn (a b : Worker) (s t : Progress) (event : Event) : Type 0 where

@@ -1,10 +1,10 @@
 // How what is under way at a channel end is carried to the far one, when no round is made at either.
 
-ghost use Rattle.std.specs.Prelude.{◌≡◌, ◌≢◌, ◌<◌, ℕ, length, map, IfOk, OnOk, slice_get};
+ghost use Rattle.std.specs.Prelude.{◌≡◌, ◌<◌, length, map, IfOk, slice_get};
 ghost use Rattle.mc_port.specs.Ends.{in_ring, out_ring};
 ghost use Rattle.mc_worker.specs.Account.{in_at, out_at};
 ghost use Rattle.mc_worker.specs.Boxes.{box_of, has_items};
-ghost use Rattle.mc_worker.specs.Carrying.{IsBroughtIn, under_way_between};
+ghost use Rattle.mc_worker.specs.Carrying.{BringsIn, ChangesOnlyIn, ChangesOnlyOut, IsSameButIns, IsSameButOuts};
 ghost use Rattle.mc_worker.specs.Ends.{in_end, out_end};
 ghost use Rattle.mc_worker.specs.Ready.{IsReady};
 
@@ -25,23 +25,14 @@ pub fn carry(from: &mut Worker, end: u8, to: &mut Worker, far: u8) -> Result<boo
     // The two are the ends of one ring.
     requires ring { slice_get (map out_ring from.old.outs.items) end ≡ slice_get (map in_ring to.old.ins.items) far }
 
-    ensures brought { OnOk result (IsBroughtIn
-        (out_at from.old end) (out_at from.new end) (in_at to.old far) (in_at to.new far)) }
+    ensures carried { BringsIn result
+        (out_at from.old end) (out_at from.new end) (in_at to.old far) (in_at to.new far) }
     ensures waits { IfOk result (λ waits. waits ≡ has_items (box_of to.new.inboxes far)) }
-    // Whether it fails or not, nothing is lost.
-    ensures kept { under_way_between (out_at from.new end) (in_at to.new far)
-        ≡ under_way_between (out_at from.old end) (in_at to.old far) }
-
-    ensures other_outs { (e : ℕ) → e ≢ end → out_at from.new e ≡ out_at from.old e }
-    ensures other_ins { (e : ℕ) → e ≢ far → in_at to.new e ≡ in_at to.old e }
-    ensures out_rings { map out_ring from.new.outs.items ≡ map out_ring from.old.outs.items }
-    ensures in_rings { map in_ring to.new.ins.items ≡ map in_ring to.old.ins.items }
-    ensures outs { length from.new.outs.items ≡ length from.old.outs.items }
-    ensures ins { length to.new.ins.items ≡ length to.old.ins.items }
-    ensures same_from { from.new ≡ record from.old { outs = from.new.outs; outboxes = from.new.outboxes } }
-    ensures same_to { to.new ≡ record to.old { ins = to.new.ins; inboxes = to.new.inboxes } }
-    ensures ready_from { IsReady from.new }
-    ensures ready_to { IsReady to.new }
+    ensures outs { ChangesOnlyOut
+        from.old.outs.items from.new.outs.items from.old.outboxes.boxes from.new.outboxes.boxes end }
+    ensures ins { ChangesOnlyIn to.old.ins.items to.new.ins.items to.old.inboxes to.new.inboxes far }
+    ensures from { IsSameButOuts from.old from.new }
+    ensures to { IsSameButIns to.old to.new }
 {
     carry_over(
         &mut from.outs,
@@ -61,18 +52,12 @@ pub fn carry_within(worker: &mut Worker, end: u8, far: u8) -> Result<bool, Alloc
     requires ring { slice_get (map out_ring worker.old.outs.items) end
         ≡ slice_get (map in_ring worker.old.ins.items) far }
 
-    ensures brought { OnOk result (IsBroughtIn
-        (out_at worker.old end) (out_at worker.new end) (in_at worker.old far) (in_at worker.new far)) }
+    ensures carried { BringsIn result
+        (out_at worker.old end) (out_at worker.new end) (in_at worker.old far) (in_at worker.new far) }
     ensures waits { IfOk result (λ waits. waits ≡ has_items (box_of worker.new.inboxes far)) }
-    ensures kept { under_way_between (out_at worker.new end) (in_at worker.new far)
-        ≡ under_way_between (out_at worker.old end) (in_at worker.old far) }
-
-    ensures other_outs { (e : ℕ) → e ≢ end → out_at worker.new e ≡ out_at worker.old e }
-    ensures other_ins { (e : ℕ) → e ≢ far → in_at worker.new e ≡ in_at worker.old e }
-    ensures out_rings { map out_ring worker.new.outs.items ≡ map out_ring worker.old.outs.items }
-    ensures in_rings { map in_ring worker.new.ins.items ≡ map in_ring worker.old.ins.items }
-    ensures outs { length worker.new.outs.items ≡ length worker.old.outs.items }
-    ensures ins { length worker.new.ins.items ≡ length worker.old.ins.items }
+    ensures outs { ChangesOnlyOut
+        worker.old.outs.items worker.new.outs.items worker.old.outboxes.boxes worker.new.outboxes.boxes end }
+    ensures ins { ChangesOnlyIn worker.old.ins.items worker.new.ins.items worker.old.inboxes worker.new.inboxes far }
     ensures same { worker.new ≡ record worker.old {
       outs = worker.new.outs;
       outboxes = worker.new.outboxes;
@@ -105,23 +90,12 @@ fn carry_over(
     requires taking { far < length ins.old.items }
     requires inbox { far < length inboxes.old }
     requires ring { slice_get (map out_ring outs.old.items) end ≡ slice_get (map in_ring ins.old.items) far }
-    ensures brought { OnOk result (IsBroughtIn
+    ensures carried { BringsIn result
         (out_end outs.old.items outboxes.old.boxes end) (out_end outs.new.items outboxes.new.boxes end)
-        (in_end ins.old.items inboxes.old far) (in_end ins.new.items inboxes.new far)) }
+        (in_end ins.old.items inboxes.old far) (in_end ins.new.items inboxes.new far) }
     ensures waits { IfOk result (λ waits. waits ≡ has_items (box_of inboxes.new far)) }
-    ensures kept { under_way_between
-        (out_end outs.new.items outboxes.new.boxes end) (in_end ins.new.items inboxes.new far)
-        ≡ under_way_between (out_end outs.old.items outboxes.old.boxes end) (in_end ins.old.items inboxes.old far) }
-    ensures other_outs { (e : ℕ) → e ≢ end
-        → out_end outs.new.items outboxes.new.boxes e ≡ out_end outs.old.items outboxes.old.boxes e }
-    ensures other_ins { (e : ℕ) → e ≢ far
-        → in_end ins.new.items inboxes.new e ≡ in_end ins.old.items inboxes.old e }
-    ensures out_rings { map out_ring outs.new.items ≡ map out_ring outs.old.items }
-    ensures in_rings { map in_ring ins.new.items ≡ map in_ring ins.old.items }
-    ensures outs { length outs.new.items ≡ length outs.old.items }
-    ensures ins { length ins.new.items ≡ length ins.old.items }
-    ensures outboxes { length outboxes.new.boxes ≡ length outboxes.old.boxes }
-    ensures inboxes { length inboxes.new ≡ length inboxes.old }
+    ensures outs { ChangesOnlyOut outs.old.items outs.new.items outboxes.old.boxes outboxes.new.boxes end }
+    ensures ins { ChangesOnlyIn ins.old.items ins.new.items inboxes.old inboxes.new far }
 {
     inboxes.bring_in(
         &mut outs[end as usize],

@@ -1,10 +1,10 @@
 // What came for a box before a round.
 
-ghost use Rattle.std.specs.Prelude.{◌≡◌, ◌≢◌, ◌<◌, ◌≤◌, ◌↔◌, ◌∷◌, ℕ, count_by, length, IfNone, IfOk, IfSome, IsTrue, OnOk, Some, slice_get};
+ghost use Rattle.std.specs.Prelude.{◌≡◌, ◌≢◌, ◌<◌, ◌≤◌, ◌↔◌, ℕ, count_by, length, IfNone, IfOk, IfSome, IsTrue, Some, slice_get};
 ghost use Rattle.mc_lane.specs.Queue.{TakesFirst};
 ghost use Rattle.mc_port.specs.Ends.{IsPair, in_ring, out_ring};
-ghost use Rattle.mc_worker.specs.Boxes.{AreEmpty, AreWaiting, box_of, has_items, items_of};
-ghost use Rattle.mc_worker.specs.Carrying.{IsBroughtIn, under_way_between};
+ghost use Rattle.mc_worker.specs.Boxes.{AreEmpty, AreWaiting, ChangesOnlyBox, box_of, has_items, items_of};
+ghost use Rattle.mc_worker.specs.Carrying.{BringsIn};
 ghost use Rattle.mc_worker.specs.Ends.{in_end_of, out_end_of};
 ghost use Rattle.mc_worker.specs.declared.limit.TheConstants.{END_LIMIT};
 
@@ -107,20 +107,14 @@ impl Inboxes {
         requires pair { IsPair from.old to.old }
         requires outbox { end < length outboxes.old.boxes }
         requires inbox { far < length self.old }
-        ensures brought { OnOk result (IsBroughtIn
+        ensures carried { BringsIn result
             (out_end_of from.old (box_of outboxes.old.boxes end)) (out_end_of from.new (box_of outboxes.new.boxes end))
-            (in_end_of to.old (box_of self.old far)) (in_end_of to.new (box_of self.new far))) }
+            (in_end_of to.old (box_of self.old far)) (in_end_of to.new (box_of self.new far)) }
         ensures waits { IfOk result (λ waits. waits ≡ has_items (box_of self.new far)) }
-        ensures kept { under_way_between
-            (out_end_of from.new (box_of outboxes.new.boxes end)) (in_end_of to.new (box_of self.new far))
-            ≡ under_way_between
-            (out_end_of from.old (box_of outboxes.old.boxes end)) (in_end_of to.old (box_of self.old far)) }
         ensures out_ring { out_ring from.new ≡ out_ring from.old }
         ensures in_ring { in_ring to.new ≡ in_ring to.old }
-        ensures other_outboxes { (e : ℕ) → e ≢ end → box_of outboxes.new.boxes e ≡ box_of outboxes.old.boxes e }
-        ensures other_inboxes { (e : ℕ) → e ≢ far → box_of self.new e ≡ box_of self.old e }
-        ensures outboxes { length outboxes.new.boxes ≡ length outboxes.old.boxes }
-        ensures inboxes { length self.new ≡ length self.old }
+        ensures outboxes { ChangesOnlyBox outboxes.old.boxes outboxes.new.boxes end }
+        ensures inboxes { ChangesOnlyBox self.old self.new far }
     {
         let brought = bring_to(from, outboxes, end, to, &mut self.lanes, far as usize);
         let waits = is_waiting(&self.lanes, far as usize);
@@ -142,22 +136,14 @@ fn bring_to(
     requires pair { IsPair from.old to.old }
     requires outbox { end < length outboxes.old.boxes }
     requires at { at < length lanes.old.items }
-    ensures brought { OnOk result (IsBroughtIn
+    ensures carried { BringsIn result
         (out_end_of from.old (box_of outboxes.old.boxes end)) (out_end_of from.new (box_of outboxes.new.boxes end))
         (in_end_of to.old (box_of (items_of lanes.old.items) at))
-        (in_end_of to.new (box_of (items_of lanes.new.items) at))) }
-    ensures kept { under_way_between
-        (out_end_of from.new (box_of outboxes.new.boxes end))
-        (in_end_of to.new (box_of (items_of lanes.new.items) at))
-        ≡ under_way_between
-        (out_end_of from.old (box_of outboxes.old.boxes end))
-        (in_end_of to.old (box_of (items_of lanes.old.items) at)) }
+        (in_end_of to.new (box_of (items_of lanes.new.items) at)) }
     ensures out_ring { out_ring from.new ≡ out_ring from.old }
     ensures in_ring { in_ring to.new ≡ in_ring to.old }
-    ensures other_outboxes { (e : ℕ) → e ≢ end → box_of outboxes.new.boxes e ≡ box_of outboxes.old.boxes e }
-    ensures other_lanes { (e : ℕ) → e ≢ at
-        → box_of (items_of lanes.new.items) e ≡ box_of (items_of lanes.old.items) e }
-    ensures outboxes { length outboxes.new.boxes ≡ length outboxes.old.boxes }
+    ensures outboxes { ChangesOnlyBox outboxes.old.boxes outboxes.new.boxes end }
+    ensures boxes { ChangesOnlyBox (items_of lanes.old.items) (items_of lanes.new.items) at }
     ensures lanes { length lanes.new.items ≡ length lanes.old.items }
 {
     bring_into(from, outboxes, end, to, &mut lanes[at])
@@ -173,17 +159,12 @@ fn bring_into(
 ) -> Result<(), AllocError>
     requires pair { IsPair from.old to.old }
     requires outbox { end < length outboxes.old.boxes }
-    ensures brought { OnOk result (IsBroughtIn
+    ensures carried { BringsIn result
         (out_end_of from.old (box_of outboxes.old.boxes end)) (out_end_of from.new (box_of outboxes.new.boxes end))
-        (in_end_of to.old lane.old.items) (in_end_of to.new lane.new.items)) }
-    ensures kept { under_way_between
-        (out_end_of from.new (box_of outboxes.new.boxes end)) (in_end_of to.new lane.new.items)
-        ≡ under_way_between
-        (out_end_of from.old (box_of outboxes.old.boxes end)) (in_end_of to.old lane.old.items) }
+        (in_end_of to.old lane.old.items) (in_end_of to.new lane.new.items) }
     ensures out_ring { out_ring from.new ≡ out_ring from.old }
     ensures in_ring { in_ring to.new ≡ in_ring to.old }
-    ensures other_outboxes { (e : ℕ) → e ≢ end → box_of outboxes.new.boxes e ≡ box_of outboxes.old.boxes e }
-    ensures outboxes { length outboxes.new.boxes ≡ length outboxes.old.boxes }
+    ensures outboxes { ChangesOnlyBox outboxes.old.boxes outboxes.new.boxes end }
 {
     drain_beside(from, to, lane)?;
     outboxes.move_all(end, lane)?;

@@ -1,7 +1,7 @@
 // The turns of a round, each after its memory was asked for.
 
 ghost use Rattle.std.specs.List.{AllByRecursion};
-ghost use Rattle.std.specs.Prelude.{◌≡◌, ◌≢◌, ◌⊎◌, ◌+◌, ◌<◌, ◌≤◌, ℕ, [], length, is_some, IsFalse, IsTrue, IfNone, IfSome, MatchOption, Some, false, slice_get};
+ghost use Rattle.std.specs.Prelude.{◌≡◌, ◌≢◌, ◌⊎◌, ◌<◌, ◌≤◌, ℕ, [], length, is_some, IsFalse, IsTrue, IfNone, IfSome, MatchOption, Some, false, slice_get};
 ghost use Rattle.mc_box.specs.BoxEvents.{is_command, is_enabled, is_shift, is_take, is_version_end};
 ghost use Rattle.mc_box.specs.Boxes.{slot_at};
 ghost use Rattle.mc_box.specs.declared.event.Event.{Event};
@@ -11,9 +11,9 @@ ghost use Rattle.mc_worker.specs.Account.{IsWork, in_at};
 ghost use Rattle.mc_worker.specs.Boxes.{AreEmpty};
 ghost use Rattle.mc_worker.specs.Ends.{next_in};
 ghost use Rattle.mc_worker.specs.Ready.{IsAllowed, IsShaped};
-ghost use Rattle.mc_worker.specs.Rounds.{HasStoppedAt};
+ghost use Rattle.mc_worker.specs.Rounds.{HasStoppedAt, HasTurned};
 ghost use Rattle.mc_worker.specs.Stops.{ended_by};
-ghost use Rattle.mc_worker.specs.Turns.{AllPassed, AreTurns, IsNextAct, IsOneTurn, IsUnderWay, is_memory};
+ghost use Rattle.mc_worker.specs.Turns.{AllPassed, IsNextAct, IsNextAt, IsOneTurn, IsUnderWay, OnlyLooks, TakesNothing, is_memory};
 ghost use Rattle.mc_worker.specs.declared.limit.TheConstants.{STAMP_LIMIT, TURN_LIMIT};
 
 use crate::limit::STAMP_LIMIT;
@@ -32,13 +32,8 @@ impl Worker {
     pub(crate) fn turn<G: Gate>(&mut self, gate: &G, progress: &mut Progress) -> Option<Stop>
         requires under_way { IsUnderWay self.old progress.old }
         requires fewer { progress.old.turns < TURN_LIMIT }
-        ensures turns { AreTurns self.old self.new progress.old progress.new }
-        ensures under_way { IsUnderWay self.new progress.new }
+        ensures turned { HasTurned self.old self.new progress.old progress.new result }
         ensures passed { AllPassed progress.old.passed progress.new.passed self.old self.new }
-        ensures ports { length self.new.ins.items ≡ length self.old.ins.items }
-        ensures made { IfNone result (progress.new.turns ≡ progress.old.turns + 1) }
-        ensures stopped { IfSome result (λ stop. progress.new.turns ≡ progress.old.turns) }
-        ensures cause { IfSome result (HasStoppedAt progress.new self.new) }
     {
         if let Some(event) = self.next_act() {
             gate.reached(self.part.number(), progress.turns + 1);
@@ -69,13 +64,8 @@ impl Worker {
         requires fewer { progress.old.turns < TURN_LIMIT }
         requires priority { self.old.stimuli.items ≡ [] }
         requires no_shift { (is_enabled self.old.part Event.Shift ≡ false) ⊎ (SHIFT_LIMIT ≤ self.old.shifts) }
-        ensures turns { AreTurns self.old self.new progress.old progress.new }
-        ensures under_way { IsUnderWay self.new progress.new }
+        ensures turned { HasTurned self.old self.new progress.old progress.new result }
         ensures passed { AllPassed progress.old.passed progress.new.passed self.old self.new }
-        ensures ports { length self.new.ins.items ≡ length self.old.ins.items }
-        ensures made { IfNone result (progress.new.turns ≡ progress.old.turns + 1) }
-        ensures stopped { IfSome result (λ stop. progress.new.turns ≡ progress.old.turns) }
-        ensures cause { IfSome result (HasStoppedAt progress.new self.new) }
     {
         match self.look(progress) {
             Some(found) => {
@@ -98,9 +88,7 @@ impl Worker {
             (λ stop. IsWork self.old self.new [] × (progress.new ≡ progress.old)) }
         ensures under_way { IsUnderWay self.new progress.new }
         ensures passed { progress.new.passed ≡ progress.old.passed }
-        ensures ins { (e : ℕ) → in_at self.new e ≡ in_at self.old e }
-        ensures ports { length self.new.ins.items ≡ length self.old.ins.items }
-        ensures slots { length self.new.part.slots ≡ length self.old.part.slots }
+        ensures nothing { TakesNothing self.old self.new }
         ensures cause { IfSome result (HasStoppedAt progress.new self.new) }
         ensures memory { IfSome result (λ stop. IsTrue (is_version_end self.old.part event)
             ⊎ IsTrue (is_memory stop)) }
@@ -125,14 +113,9 @@ impl Worker {
         requires fewer { progress.old.turns < TURN_LIMIT }
         requires next { next_in (in_at self.old end) ≡ Some item }
         requires priority { self.old.stimuli.items ≡ [] }
-        ensures turns { AreTurns self.old self.new progress.old progress.new }
-        ensures under_way { IsUnderWay self.new progress.new }
+        ensures turned { HasTurned self.old self.new progress.old progress.new result }
         ensures others { (e : ℕ) → e ≢ end → in_at self.new e ≡ in_at self.old e }
-        ensures ports { length self.new.ins.items ≡ length self.old.ins.items }
         ensures passed { progress.new.passed ≡ progress.old.passed }
-        ensures made { IfNone result (progress.new.turns ≡ progress.old.turns + 1) }
-        ensures stopped { IfSome result (λ stop. progress.new.turns ≡ progress.old.turns) }
-        ensures cause { IfSome result (HasStoppedAt progress.new self.new) }
     {
         if item.stamp > STAMP_LIMIT {
             return Some(Stop::Strange(end, item.tunnel));
@@ -158,14 +141,9 @@ impl Worker {
         requires next { next_in (in_at self.old end) ≡ Some item }
         requires stamp { item.stamp ≤ STAMP_LIMIT }
         requires priority { self.old.stimuli.items ≡ [] }
-        ensures turns { AreTurns self.old self.new progress.old progress.new }
-        ensures under_way { IsUnderWay self.new progress.new }
+        ensures turned { HasTurned self.old self.new progress.old progress.new result }
         ensures others { (e : ℕ) → e ≢ end → in_at self.new e ≡ in_at self.old e }
-        ensures ports { length self.new.ins.items ≡ length self.old.ins.items }
         ensures passed { progress.new.passed ≡ progress.old.passed }
-        ensures made { IfNone result (progress.new.turns ≡ progress.old.turns + 1) }
-        ensures stopped { IfSome result (λ stop. progress.new.turns ≡ progress.old.turns) }
-        ensures cause { IfSome result (HasStoppedAt progress.new self.new) }
     {
         self.place.keeps();
         if !may_take(&self.part, slot, &item.signal) {
@@ -186,13 +164,9 @@ impl Worker {
     pub(crate) fn look(&mut self, progress: &mut Progress) -> Option<(u8, Stamped)>
         requires shaped { IsShaped self.old }
         requires empty { 0 < progress.old.passed → AreEmpty self.old.inboxes }
-        ensures work { IsWork self.old self.new [] }
-        ensures kept { self.new ≡ record self.old { ins = self.new.ins } }
-        ensures ports { length self.new.ins.items ≡ length self.old.ins.items }
+        ensures looked { OnlyLooks self.old self.new }
         ensures numbers { progress.new ≡ record progress.old { passed = progress.new.passed } }
-        ensures there { IfSome result (λ found. found.0 < length self.old.ins.items) }
-        ensures found { IfSome result (λ found. next_in (in_at self.new found.0) ≡ Some found.1) }
-        ensures ahead { IfSome result (λ found. progress.new.passed ≤ found.0) }
+        ensures found { IfSome result (IsNextAt self.new progress.new.passed) }
         ensures passed { AllPassed progress.old.passed progress.new.passed self.old self.new }
         ensures none { IfNone result (progress.new.passed ≡ length self.old.ins.items) }
         ensures empty { 0 < progress.new.passed → AreEmpty self.new.inboxes }

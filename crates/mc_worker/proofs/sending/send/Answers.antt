@@ -17,8 +17,8 @@ returns-in-Err-clause-account c =
     let box = box_of c.args.outboxes.now.boxes c.args.end in
     let off : has_items box ≡ false = cc in
     out_put c.args.outs.now.items c.args.outboxes.now.boxes c.push-in-Err.new.self.boxes c.args.end c.index_mut.result.now c.give.new.self c.args.item c.requires.port c.index_mut.ensures.value c.push-in-Err.ensures.others
-    (handed_back c.index_mut.result.now c.give.new.self box (box_of c.push-in-Err.new.self.boxes c.args.end) c.args.item (nothing_in box off) c.in-Err.ensures.kept c.in-Err.ensures.full.0 c.in-Err.ensures.full.1 c.in-Err.ensures.counted
-    (rw (← c.in-Err.ensures.back) c.push-in-Err.ensures.item))
+    (handed_back c.index_mut.result.now c.give.new.self box (box_of c.push-in-Err.new.self.boxes c.args.end) c.args.item c.in-Err.back (nothing_in box off) c.in-Err.ensures.back
+    (rw (← c.in-Err.ensures.back.same) c.push-in-Err.ensures.item))
 
 pub returns-in-Err-clause-rings : goal.returns-in-Err-clause-rings
 returns-in-Err-clause-rings c =
@@ -29,7 +29,7 @@ returns-in_default-clause-account c =
     let box = box_of c.args.outboxes.now.boxes c.args.end in
     let off : has_items box ≡ false = cc in
     out_put c.args.outs.now.items c.args.outboxes.now.boxes c.args.outboxes.now.boxes c.args.end c.index_mut.result.now c.give.new.self c.args.item c.requires.port c.index_mut.ensures.value (λ e apart. refl)
-    (gave c.index_mut.result.now c.give.new.self box c.args.item (nothing_in box off) c.in_default.ensures.given c.in_default.ensures.places c.in_default.ensures.uncounted)
+    (gave c.index_mut.result.now c.give.new.self box c.args.item (nothing_in box off) c.in_default.ensures.given)
 
 pub returns-in_default-clause-rings : goal.returns-in_default-clause-rings
 returns-in_default-clause-rings c =
