@@ -51,7 +51,8 @@ fn box_after(count: u32, tunnels: u32) -> u32 {
 }
 
 /// The world of a caller and a callee, and of so many audio tunnels in a row from the one to the other. Features stand
-/// between them, whose slots aren't linked yet. It is refused where the network would be longer than 1,024 channels.
+/// between them, whose slots aren't linked yet. It is refused past 8,129 tunnels, where a feature would have more than
+/// 64 slots.
 pub fn chain(alloc: Global, tunnels: u32) -> Result<World, ChainFault> {
     let mut plan = Plan::new(alloc);
     plan.add(device())?;

@@ -10,9 +10,8 @@ use Rattle.mc_lines.specs.declared.detail.Limit.{Limit}
 use Rattle.mc_lines.specs.declared.detail.Limit.TheVariants as limit
 use Rattle.mc_lines.specs.declared.detail.Why.{Why}
 use Rattle.mc_lines.specs.declared.detail.Why.TheVariants as why
-use Rattle.mc_lines.specs.declared.limit.TheConstants.{COMMAND_LIMIT, LIST_LIMIT}
+use Rattle.mc_lines.specs.declared.limit.TheConstants.{CHANNEL_LIMIT, COMMAND_LIMIT, LIST_LIMIT}
 use Rattle.mc_model.specs.declared.channel.TheConstants.{TUNNEL_LIMIT}
-use Rattle.mc_plan.specs.declared.limit.TheConstants.{CHANNEL_LIMIT}
 use Rattle.mc_program_lines.specs.declared.limit.TheConstants.{STATE_LIMIT, TRANSITION_LIMIT}
 use Rattle.mc_script.specs.declared.rule.TheConstants.{EXTRA_WORD, MISSING_WORD, NO_SUCH_SLOT, UNDECLARED, WRONG_VERSION, WRONG_WORD}
 use Rattle.mc_text.specs.Lines.{words}

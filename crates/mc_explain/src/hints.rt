@@ -6,10 +6,9 @@ ghost use Rattle.mc_explain.specs.Quotes.{told_line};
 
 use crate::explanation::put_line;
 use crate::quote::put_escaped;
-use mc_lines::limit::{COMMAND_LIMIT, LIST_LIMIT};
+use mc_lines::limit::{CHANNEL_LIMIT, COMMAND_LIMIT, LIST_LIMIT};
 use mc_lines::{Detail, Limit, Why};
 use mc_model::TUNNEL_LIMIT;
-use mc_plan::limit::CHANNEL_LIMIT;
 use mc_program_lines::limit::{STATE_LIMIT, TRANSITION_LIMIT};
 use mc_script::rule::{
     EXTRA_WORD, MISSING_WORD, NO_SUCH_SLOT, UNDECLARED, WRONG_VERSION, WRONG_WORD,

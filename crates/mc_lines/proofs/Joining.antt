@@ -1,5 +1,5 @@
 -- Two boxes are joined: whether they may be is the plan's to say, and names, shapes and channels go on to fit.
-use Rattle.std.proofs.Common.{◌≡◌, ℕ, ◌+◌, ◌<◌, ◌==◌, ◌||◌, Bool, true, false, if◌then◌else◌, nat_le, nat_lt, Result, Ok, Err, Option, Some, None, List, [], ◌∷◌, ◌++◌, length, slice_index_or, slice_set, refl, ap, sym, ◌∙◌, subst, arith, map}
+use Rattle.std.proofs.Common.{◌≡◌, ℕ, ◌+◌, ◌<◌, ◌==◌, ◌||◌, Bool, true, false, nat_le, nat_lt, Result, Ok, Err, Option, Some, None, List, [], ◌∷◌, ◌++◌, length, slice_index_or, slice_set, refl, ap, sym, ◌∙◌, subst, arith, map}
 use Rattle.std.proofs.lemmas.Grind.{common_steps}
 use Rattle.std.proofs.lemmas.List.{length-map, length-set}
 use Rattle.mc_signal.specs.declared.Medium.{Medium}
@@ -10,53 +10,52 @@ use Rattle.mc_plan.specs.Plans.{PlanState, channel_between, last_channel, slots_
 use Rattle.mc_plan.specs.Refusals.{IsRefusal, fault_if, unless_fault, widen_fault}
 use Rattle.mc_plan.specs.Refusals as plan
 use Rattle.mc_plan.specs.declared.fault.PlanFault.{PlanFault}
-use Rattle.mc_plan.specs.declared.fault.PlanFault.TheVariants.{SameBox, NoTunnels, TooManyTunnels, ChannelsFull, SlotsFull}
+use Rattle.mc_plan.specs.declared.fault.PlanFault.TheVariants.{TooManyTunnels, SlotsFull}
 use Rattle.mc_plan.proofs.Slots.{part, slots_append, slots_one}
 use Rattle.mc_plan.specs.LaidOut.{IsLaidOut}
 use Rattle.mc_plan.proofs.Widened.{last_there, slots_widened}
 use Rattle.mc_script.specs.Places.{unless}
 use Rattle.mc_script.specs.declared.command.LineFault.{LineFault}
-use Rattle.mc_script.specs.declared.rule.TheConstants.{LIMIT_PASSED, SAME_BOX}
+use Rattle.mc_script.specs.declared.rule.TheConstants.{LIMIT_PASSED}
 use Rattle.mc_lines.specs.BoxLines.{box_seen, check_join, check_widen}
 use Rattle.mc_lines.specs.Rules.{is_full}
 use Rattle.mc_lines.specs.Forms.{IsInForm}
 use Rattle.mc_lines.specs.Meaning.{with_joined, with_medium, with_new_slot, with_widened}
 use Rattle.mc_lines.specs.SoFar.{Declared}
+use Rattle.mc_lines.specs.declared.limit.TheConstants.{CHANNEL_LIMIT}
 use Rattle.mc_lines.specs.declared.section.Section.TheVariants as section
 
 -- ---- whether they may be
 
--- the fault of the line for the plan's refusal
-abbrev pub refusal : Result (Unit {0}) PlanFault → Result (Unit {0}) LineFault
-refusal (Ok done) = Ok tt
-refusal (Err SameBox) = Err (record { number = SAME_BOX })
-refusal (Err other) = Err (record { number = LIMIT_PASSED })
+-- what a plan that has room for a channel answers: whether each of two boxes has room for a slot
+abbrev pub slots_alone : (near far : Bool) → Result (Unit {0}) PlanFault
+slots_alone near far = unless_fault (fault_if (near || far) SlotsFull None)
 
--- the plan's rules in their order, and the line's
-same_refusal : (same near far full : Bool)
-    → refusal (unless_fault (fault_if same SameBox (fault_if false NoTunnels (fault_if false TooManyTunnels (fault_if full ChannelsFull (fault_if (near || far) SlotsFull None))))))
-    ≡ (if same then Err (record { number = SAME_BOX }) else unless (near || far || full) LIMIT_PASSED tt)
-same_refusal true near far full = refl
-same_refusal false true far true = refl
-same_refusal false true far false = refl
-same_refusal false false true true = refl
-same_refusal false false true false = refl
-same_refusal false false false true = refl
-same_refusal false false false false = refl
+-- and what the line's rules do
+abbrev pub slots_rule : (near far : Bool) → Result (Unit {0}) LineFault
+slots_rule near far = unless (near || far) LIMIT_PASSED tt
+
+rule_alone : (near far : Bool) → unless (near || far || false) LIMIT_PASSED tt ≡ slots_rule near far
+rule_alone true far = refl
+rule_alone false true = refl
+rule_alone false false = refl
 
 -- one slot more is too many where there are as many as there may be
 one_too_many : (count : ℕ) → nat_lt 64 (count + 1) ≡ nat_le 64 count
 one_too_many count = grind (arith, common_steps)
 
--- the plan refuses as the rules on the line do
+-- two boxes are declared, and there are fewer channels than a text may have, so fewer than a plan may have, too
 pub joins_by_plan : (names : NameLists) (planned : PlanState) (from to : ℕ) (medium : Medium) → length planned.boxes ≡ length names.boxes → ((who : ℕ) → slots_of planned.channels who ≡ length (slot_names names who))
-    → from < length names.boxes → to < length names.boxes → refusal (plan.may_join planned from to (medium ∷ [])) ≡ check_join names planned.channels from to
-joins_by_plan names planned from to medium boxes slots near far =
+    → from < length names.boxes → to < length names.boxes → (from == to) ≡ false → length planned.channels < CHANNEL_LIMIT
+    → (plan.may_join planned from to (medium ∷ []) ≡ slots_alone (is_full names from) (is_full names to)) × (check_join names planned.channels from to ≡ slots_rule (is_full names from) (is_full names to))
+joins_by_plan names planned from to medium boxes slots near far apart room =
     let first : nat_le (length planned.boxes) from ≡ false = grind (arith, common_steps) in
     let second : nat_le (length planned.boxes) to ≡ false = grind (arith, common_steps) in
     let near_full : nat_lt 64 (slots_of planned.channels from + 1) ≡ is_full names from = ap (λ (n : ℕ). nat_lt 64 (n + 1)) (slots from) ∙ one_too_many (length (slot_names names from)) in
     let far_full : nat_lt 64 (slots_of planned.channels to + 1) ≡ is_full names to = ap (λ (n : ℕ). nat_lt 64 (n + 1)) (slots to) ∙ one_too_many (length (slot_names names to)) in
-    rw (first, second, near_full, far_full) (same_refusal (from == to) (is_full names from) (is_full names to) (nat_le 1024 (length planned.channels)))
+    let text_full : nat_le 1024 (length planned.channels) ≡ false = grind (arith, common_steps) in
+    let plan_full : nat_le 262144 (length planned.channels) ≡ false = grind (arith, common_steps) in
+    (rw (first, second, apart, plan_full, near_full, far_full) refl, rw (apart, text_full) (rule_alone (is_full names from) (is_full names to)))
 
 -- the fault of the line for the plan's refusal of one tunnel more
 abbrev pub widening_refusal : Result (Unit {0}) PlanFault → Result (Unit {0}) LineFault

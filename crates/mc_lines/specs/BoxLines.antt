@@ -14,7 +14,7 @@ use Rattle.mc_script.specs.declared.rule.TheConstants.{EXTRA_WORD, GIVEN_TWICE, 
 use Rattle.mc_lines.specs.Meaning.{with_joined, with_new_box, with_send_line, with_slots, with_widened}
 use Rattle.mc_lines.specs.Rules.{is_full, is_late}
 use Rattle.mc_lines.specs.SoFar.{Declared, DeclaredBox}
-use Rattle.mc_plan.specs.declared.limit.TheConstants.{CHANNEL_LIMIT}
+use Rattle.mc_lines.specs.declared.limit.TheConstants.{CHANNEL_LIMIT}
 use Rattle.mc_lines.specs.declared.reader.boxes.DeviceLine.{DeviceLine}
 use Rattle.mc_lines.specs.declared.reader.channels.ChannelLine.{ChannelLine}
 use Rattle.mc_lines.specs.declared.reader.sends.SendLine.{SendLine}

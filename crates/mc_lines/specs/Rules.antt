@@ -28,9 +28,8 @@ use Rattle.mc_lines.specs.declared.section.Section.TheVariants as section
 use Rattle.mc_lines.specs.declared.tail.Tail.{Tail}
 use Rattle.mc_lines.specs.declared.tail.Tail.TheVariants.{Nothing, Journal, Grow}
 use Rattle.mc_plan.specs.Plans.{last_channel}
-use Rattle.mc_plan.specs.declared.limit.TheConstants.{CHANNEL_LIMIT}
 use Rattle.mc_model.specs.declared.channel.TheConstants.{TUNNEL_LIMIT}
-use Rattle.mc_lines.specs.declared.limit.TheConstants.{COMMAND_LIMIT, JOURNAL_TEXT_LIMIT, LIST_LIMIT, TEXT_LIMIT}
+use Rattle.mc_lines.specs.declared.limit.TheConstants.{CHANNEL_LIMIT, COMMAND_LIMIT, JOURNAL_TEXT_LIMIT, LIST_LIMIT, TEXT_LIMIT}
 
 -- ---- limits
 

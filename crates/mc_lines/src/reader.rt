@@ -60,7 +60,7 @@ pub struct Reader {
 }
 
 impl Model for Reader {
-    ghost use Rattle.std.specs.Prelude.{map};
+    ghost use Rattle.std.specs.Prelude.{◌≤◌, length, map};
     ghost use Rattle.mc_lines.specs.BoxLines.{box_seen};
     ghost use Rattle.mc_lines.specs.SoFar.{Declared};
 
@@ -80,6 +80,10 @@ impl Model for Reader {
       blocks = r.blocks.items;
       commands = r.commands.items;
     } };
+
+    ghost use Rattle.mc_lines.specs.declared.limit.TheConstants.{CHANNEL_LIMIT};
+
+    ghost invariant = { λ r. length r.plan.channels ≤ CHANNEL_LIMIT };
 }
 
 impl Reader {

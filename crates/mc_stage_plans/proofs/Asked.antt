@@ -21,12 +21,12 @@ use Rattle.mc_lines.proofs.FirstBroken.{all_before, all_behind}
 use Rattle.mc_lines.specs.Joins.{also_broken, among_channels, has_program, join_rules, names_programmed}
 use Rattle.mc_lines.specs.Rules.{channel_rules, is_pending, of_slots}
 use Rattle.mc_lines.specs.SoFar.{Declared}
+use Rattle.mc_lines.specs.declared.limit.TheConstants.{CHANNEL_LIMIT}
 use Rattle.mc_model.specs.Shapes.{is_allowed}
 use Rattle.mc_model.specs.Worlds.{ChannelState, WorldState, box_at, place, places_among, slot_count}
 use Rattle.mc_net.proofs.Enabled.{IsEnabled}
 use Rattle.mc_plan.specs.LaidOut.{AreInOrder}
 use Rattle.mc_plan.specs.Plans.{no_channel}
-use Rattle.mc_plan.specs.declared.limit.TheConstants.{CHANNEL_LIMIT}
 use Rattle.mc_program_lines.proofs.Found.{named_within}
 use Rattle.mc_program_lines.proofs.KeptRules.{first_kept, kept_at, others_kept}
 use Rattle.mc_script.specs.Places.{box_named}

@@ -10,6 +10,7 @@ ghost use Rattle.mc_lines.specs.Forms.{IsInForm};
 ghost use Rattle.mc_lines.specs.Meaning.{with_new_channel, with_medium, with_new_slot, with_new_tunnel};
 ghost use Rattle.mc_lines.specs.LineReadings.{ReadsKind, SpellsAlso, SpellsChannel, SpellsKind};
 
+use crate::limit::CHANNEL_LIMIT;
 use crate::places::fixed_medium;
 use crate::reader::Reader;
 use crate::section::{Keyword, Section};
@@ -139,12 +140,21 @@ impl Reader {
         requires far { to < length self.now.names.boxes }
         ensures { result ≡ check_join self.now.names self.now.channels from to }
     {
+        if from == to {
+            return Err(LineFault { number: SAME_BOX });
+        }
+        if CHANNEL_LIMIT <= self.plan.channels().len() {
+            return Err(LineFault {
+                number: LIMIT_PASSED,
+            });
+        }
         match self.plan.may_join(from, to, &[medium]) {
             Ok(()) => Ok(()),
-            Err(PlanFault::SameBox) => Err(LineFault { number: SAME_BOX }),
-            Err(_) => Err(LineFault {
+            Err(PlanFault::SlotsFull) => Err(LineFault {
                 number: LIMIT_PASSED,
             }),
+            // a plan has room for more channels than a text
+            Err(_) => unreachable!(),
         }
     }
 

@@ -8,7 +8,7 @@ ghost use Rattle.mc_lines.specs.Joins.{after_commands, check_joins, has_program,
 ghost use Rattle.mc_lines.specs.Rules.{is_pending};
 ghost use Rattle.mc_script.specs.Places.{box_named};
 ghost use Rattle.std.specs.Option.{option_copied};
-ghost use Rattle.mc_plan.specs.declared.limit.TheConstants.{CHANNEL_LIMIT};
+ghost use Rattle.mc_lines.specs.declared.limit.TheConstants.{CHANNEL_LIMIT};
 
 use crate::reader::Reader;
 use crate::reader::channels::ChannelLine;
@@ -51,7 +51,6 @@ impl Reader {
         ensures channels { result.now ≡ self.now.channels }
         ensures few { length result.now ≤ CHANNEL_LIMIT }
     {
-        self.plan.keeps();
         self.plan.channels()
     }
 
