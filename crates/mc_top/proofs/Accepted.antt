@@ -19,7 +19,7 @@ use Rattle.mc_script.specs.declared.command.JournalLine.{JournalLine}
 use Rattle.mc_text.specs.NameLists.{NameLists}
 use Rattle.mc_top.specs.Accepted.{IsAccepted, PrintedJournalsAreAccepted, with_printed}
 use Rattle.mc_call.specs.Behind.{HasGoodJournal, HasJournal, has_bad_tail, is_too_long, tail_lines}
-use Rattle.mc_top.specs.Printed.{journal_text}
+use Rattle.mc_script_end.specs.Printed.{journal_text}
 use Rattle.mc_top.specs.TextAlone.{SettlesText}
 use Rattle.mc_top.specs.Top.{Worked}
 use Rattle.mc_top.proofs.GoodJournals.{printed_journals_are_good, printed_lines}

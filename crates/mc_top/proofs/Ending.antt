@@ -4,7 +4,7 @@ use Rattle.std.specs.declared.option.Option.{Option}
 use Rattle.std.specs.Io.KnownBytes.{Keeps}
 use Rattle.mc_replay.specs.Journals.{HoldsAtSettles, IsJournal}
 use Rattle.mc_replay.specs.Segments.{EachKeepsShiftLimit}
-use Rattle.mc_top.specs.Journals.{IsJournalTo, IsStoppedJournal, ShowsCause}
+use Rattle.mc_script_end.specs.Journals.{IsJournalTo, IsStoppedJournal, ShowsCause}
 use Rattle.mc_top.specs.Drawn.{FollowsDraws}
 use Rattle.mc_program_lines.proofs.Found.{found_within}
 use Rattle.mc_text.specs.NameLists.{place_of, NameLists}
@@ -21,11 +21,12 @@ use Rattle.mc_lines.specs.declared.tail.Tail.TheVariants.{Nothing, Journal}
 use Rattle.mc_net.specs.declared.net.Net.{Net}
 use Rattle.mc_replay.proofs.Holds.{journals_hold}
 use Rattle.mc_call.specs.Behind.{HasJournal, HasJournalFault}
-use Rattle.mc_top.specs.Printed.{checked_text, run_text, script_text, with_journal}
+use Rattle.mc_script_end.specs.Printed.{with_journal}
+use Rattle.mc_top.specs.Printed.{checked_text, run_text, script_text}
 use Rattle.mc_call.specs.Printed.{fault_line, journal_fault_line, no_box_line}
 use Rattle.mc_settle_text.specs.Stops.{stop_line}
 use Rattle.mc_top.specs.Statuses.{IsDueForMode, IsDueForText}
-use Rattle.mc_call.specs.Statuses.{due_by, keeps_journal, stop_status}
+use Rattle.mc_call.specs.Statuses.{due_by, stop_status}
 use Rattle.mc_call.specs.Answers.{Refuses}
 use Rattle.mc_call.specs.Calls.{Delivers, GivesUp}
 use Rattle.mc_call.specs.declared.done.Done.{Done}
@@ -37,6 +38,7 @@ use Rattle.mc_seq.specs.declared.stopping.SettleStop.{SettleStop}
 use Rattle.mc_seq.specs.declared.stopping.SettleStop.TheVariants.{Restless, Ring, VersionEnd}
 use Rattle.mc_words.specs.declared.words.Mode.{Mode}
 use Rattle.mc_words.specs.declared.words.Mode.TheVariants.{Check, Conf, Gen, One, Run, Scene}
+use Rattle.mc_script_end.proofs.Ending.{kept_zero, stop_by, stop_keeps}
 
 -- what a mode prints is what its run prints
 printed_by : (mode : Mode) (net : Net) (journal : List JournalLine) → checks mode ≡ false → run_text (report_of mode net.names) (prints_journal mode) net.names net.world None journal ≡ output_of mode net journal
@@ -60,10 +62,6 @@ runs_reads (Conf name) runs = refl
 stopped_by : (report : Report) (asked : Bool) (stop : SettleStop) (names : NameLists) (world : WorldState) (journal : List JournalLine) → run_text report asked names world (Some stop) journal ≡ stop_line names world stop
 stopped_by report true stop names world journal = refl
 stopped_by report false stop names world journal = refl
-
--- the status of work that was done keeps the journal
-pub kept_zero : (due : ℕ) → due ≡ 0 → keeps_journal due ≡ false → ⊥
-kept_zero due none some = let here : keeps_journal 0 ≡ false = subst (λ (n : ℕ). keeps_journal n ≡ false) none some in cc
 
 -- the work was done, and what it printed was delivered
 ends_worked : (mode : Mode) (text : List ℕ) (net : Net) (old new : Option (List ℕ)) (status due : ℕ) (journal : List JournalLine) (output : List ℕ)
@@ -106,17 +104,6 @@ stops_script mode text net stop old new status due journal output runs declared 
   shows = shows;
   delivered = subst (λ (n : ℕ). Delivers status n old new (stop_line net.names net.world stop)) (sym due_is) (rw is at delivered);
 }
-
--- the status of a stop is that of a fault, of a restless box or of a ring, and each keeps the journal
-stop_by : (stop : SettleStop) (due : ℕ) → due ≡ stop_status stop → (due ≡ 1) ⊎ (due ≡ 6) ⊎ (due ≡ 7)
-stop_by (VersionEnd at) due is = inl is
-stop_by (Restless at) due is = inr (inl is)
-stop_by (Ring at) due is = inr (inr is)
-
-stop_keeps : (stop : SettleStop) (due : ℕ) → due ≡ stop_status stop → keeps_journal due ≡ false → ⊥
-stop_keeps (VersionEnd at) due is some = let here : keeps_journal 1 ≡ false = subst (λ (n : ℕ). keeps_journal n ≡ false) is some in cc
-stop_keeps (Restless at) due is some = let here : keeps_journal 6 ≡ false = subst (λ (n : ℕ). keeps_journal n ≡ false) is some in cc
-stop_keeps (Ring at) due is some = let here : keeps_journal 7 ≡ false = subst (λ (n : ℕ). keeps_journal n ≡ false) is some in cc
 
 ends_at_stop : (mode : Mode) (text : List ℕ) (stop : SettleStop) (old new : Option (List ℕ)) (status due : ℕ) (journal : List JournalLine) → due ≡ stop_status stop
     → StopsScript mode (Some text) old new status due journal → Ends mode (Some text) old new status due journal

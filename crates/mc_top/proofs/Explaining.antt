@@ -13,7 +13,8 @@ use Rattle.mc_seq.specs.declared.stopping.SettleStop.{SettleStop}
 use Rattle.mc_settle_text.specs.Stops.{stop_place}
 use Rattle.mc_text.specs.NameLists.{NameLists}
 use Rattle.mc_top.proofs.MadeTexts.{generated_can_run, scenes_can_run}
-use Rattle.mc_top.specs.Modes.{CanRun, IsFaultByWords, IsWithinLimits, tail_of, text_for}
+use Rattle.mc_script_end.specs.Rings.{CanRun}
+use Rattle.mc_top.specs.Modes.{IsFaultByWords, IsWithinLimits, tail_of, text_for}
 use Rattle.mc_top.specs.Printed.{run_text}
 use Rattle.mc_top.specs.Top.{IsTextFor}
 use Rattle.mc_top.specs.declared.report.Report.{Report}

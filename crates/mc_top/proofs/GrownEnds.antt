@@ -35,7 +35,8 @@ use Rattle.mc_call.specs.Statuses.{keeps_journal, stop_status}
 use Rattle.mc_call.specs.Calls.{Delivers, IsTextOf}
 use Rattle.mc_call.specs.declared.done.Done.{Done}
 use Rattle.mc_call.proofs.Told.{keeps_same}
-use Rattle.mc_top.proofs.Ending.{gave_by, kept_zero}
+use Rattle.mc_script_end.proofs.Ending.{kept_zero}
+use Rattle.mc_top.proofs.Ending.{gave_by}
 use Rattle.mc_top.proofs.GrownTexts.{fault_told, planned_told}
 
 -- ---- want of memory, and a fault in reading

@@ -1,20 +1,15 @@
 mod Accepted
-mod Causes
 mod DrawsStop
 pub mod Ending
 mod EndsAlike
 pub mod Explaining
-mod FirstWorlds
 mod GenAlike
 mod GoodJournals
 mod GrownCompletes
 mod GrownEnds
 mod GrownTexts
-mod LastVersions
-mod LeftRings
 mod MadeTexts
 mod NamedJournals
-mod NamedRings
 pub mod NoneClose
 mod OneJournal
 pub mod OwnTexts
@@ -36,7 +31,6 @@ mod Summing
 mod TextAlone
 pub mod Told
 mod ToldSettles
-mod ToldWords
 mod UsedUp
 mod Viewing
 pub mod Refusing

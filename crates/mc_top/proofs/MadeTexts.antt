@@ -15,9 +15,9 @@ use Rattle.mc_scene_laws.proofs.ChainTexts.{generated_are_texts}
 use Rattle.mc_scene_laws.proofs.GeneratedRests.{generated_come_to_rest}
 use Rattle.mc_scene_laws.proofs.SceneRests.{scenes_come_to_rest}
 use Rattle.mc_scene_laws.proofs.SceneTexts.{scenes_are_texts}
-use Rattle.mc_top.proofs.FirstWorlds.{first_worlds_await_words}
-use Rattle.mc_top.specs.Modes.{CanRun}
-use Rattle.mc_top.specs.Rings.{AlwaysRests}
+use Rattle.mc_script_end.proofs.FirstWorlds.{first_worlds_await_words}
+use Rattle.mc_script_end.specs.Rings.{CanRun}
+use Rattle.mc_script_end.specs.Rings.{AlwaysRests}
 use Rattle.mc_top.specs.SceneLaws.{GeneratedCanRun, ScenesCanRun}
 use Rattle.mc_grown_rest.specs.Rests.{TellsFew}
 

@@ -8,7 +8,8 @@ use Rattle.mc_scene.specs.Outputs.{scene_output}
 use Rattle.mc_scene.specs.Scenes.{scene_text}
 use Rattle.mc_scene.specs.declared.scenes.Scene.{Scene as OneScene}
 use Rattle.mc_script.specs.declared.command.JournalLine.{JournalLine}
-use Rattle.mc_top.specs.Modes.{CanRun, IsWithinLimits, IsWorkable, reads, text_for}
+use Rattle.mc_script_end.specs.Rings.{CanRun}
+use Rattle.mc_top.specs.Modes.{IsWithinLimits, IsWorkable, reads, text_for}
 use Rattle.mc_call.specs.Calls.{Delivers}
 use Rattle.mc_top.specs.Top.{Ends, IsTextFor}
 use Rattle.mc_words.specs.Commands.{IsCommand}

@@ -28,7 +28,7 @@ use Rattle.mc_script.specs.declared.command.JournalLine.{JournalLine}
 use Rattle.mc_settings.specs.Settings.{Settings}
 use Rattle.mc_table.specs.Words.{line_of}
 use Rattle.mc_text.specs.NameLists.{NameLists}
-use Rattle.mc_top.specs.Printed.{journal_text}
+use Rattle.mc_script_end.specs.Printed.{journal_text}
 use Rattle.mc_settle_text.specs.Paths.{settle_text}
 use Rattle.mc_top.proofs.SceneSteps.{SettledAs, ends_in, first_settled, held_on, none_owed, state_held, state_seen, told_settled, untold_settled}
 use Rattle.mc_top.proofs.SceneTexts.{settle_then, settle_written, two_paths_text}

@@ -19,7 +19,7 @@ use Rattle.mc_scene_laws.specs.SceneTexts.{pbx_declared, prepaid_declared, scene
 use Rattle.mc_scene_laws.proofs.SceneTexts.{scenes_are_texts}
 use Rattle.mc_script.specs.declared.command.JournalLine.{JournalLine}
 use Rattle.mc_text.specs.NameLists.{NameLists}
-use Rattle.mc_top.specs.Printed.{journal_text}
+use Rattle.mc_script_end.specs.Printed.{journal_text}
 use Rattle.mc_top.specs.SceneOutputs.{ScenesPrintTheSame}
 use Rattle.mc_top.proofs.PbxScene.{pbx_block, pbx_prints, pbx_stage}
 use Rattle.mc_top.proofs.PrepaidScene.{prepaid_block, prepaid_prints, prepaid_stage}

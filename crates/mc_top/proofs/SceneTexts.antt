@@ -14,7 +14,7 @@ use Rattle.mc_scene.specs.Outputs.{settle_lines}
 use Rattle.mc_script.specs.declared.command.JournalLine.{JournalLine}
 use Rattle.mc_table.specs.Words.{line_of}
 use Rattle.mc_text.specs.NameLists.{NameLists}
-use Rattle.mc_top.specs.Printed.{journal_text}
+use Rattle.mc_script_end.specs.Printed.{journal_text}
 use Rattle.mc_settle_text.specs.Paths.{path_text, settle_text}
 use Rattle.mc_top.proofs.SeenAlike.{AgreeOnPaths, AreSeenAlike, seen_back, settle_agrees}
 use Rattle.mc_top.proofs.TextAlone.{segment_text}

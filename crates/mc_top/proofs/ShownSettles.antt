@@ -21,13 +21,13 @@ use Rattle.mc_script.specs.declared.command.JournalLine.{JournalLine}
 use Rattle.mc_script.specs.declared.command.JournalLine.TheVariants.{Turn as Made, Settled}
 use Rattle.mc_table.specs.Shown.{IsNamedView, print_settle}
 use Rattle.mc_text.specs.NameLists.{NameLists}
-use Rattle.mc_top.specs.Printed.{journal_text}
+use Rattle.mc_script_end.specs.Printed.{journal_text}
 use Rattle.mc_settle_text.specs.Paths.{settle_text}
 use Rattle.mc_top.specs.Shown.{ShowsPaths, shown_text}
-use Rattle.mc_top.proofs.Running.{IsAfterSettle, after_settle}
+use Rattle.mc_script_end.proofs.Running.{IsAfterSettle, after_settle}
 use Rattle.mc_top.proofs.TextAlone.{segment_text}
 use Rattle.mc_settle_text.proofs.Shown.{settle_is, views_named}
-use Rattle.mc_top.proofs.Viewing.{has_names}
+use Rattle.mc_script_end.proofs.Running.{has_names}
 use Rattle.mc_view.specs.declared.PathView.{PathView}
 
 -- ---- replaying

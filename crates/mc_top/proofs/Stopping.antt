@@ -2,8 +2,7 @@
 use Rattle.std.proofs.Common.{◌≡◌, ◌<◌, ◌++◌, ◌∷◌, [], ℕ, ◌+◌, IfOk, IfSome, Ok, Err, Option, None, Some, Result, List, Vec, Global, drop, length, map, refl, ap, sym, ◌∙◌, subst, inl, slice_index_or}
 use Rattle.std.specs.declared.alloc.AllocError.{AllocError}
 use Rattle.mc_box.specs.declared.event.Turn.{Turn}
-use Rattle.mc_model.specs.Shapes.{HasShape}
-use Rattle.mc_model.specs.Worlds.{ChannelState, WorldState, place, places_among}
+use Rattle.mc_model.specs.Worlds.{WorldState, place}
 use Rattle.mc_net.specs.Nets.{batch_turns}
 use Rattle.mc_script.specs.declared.command.Batch.{Batch}
 use Rattle.mc_script.specs.declared.command.JournalLine.{JournalLine}
@@ -19,23 +18,22 @@ use Rattle.mc_seq.specs.declared.fault.StoppedBox.{StoppedBox}
 use Rattle.mc_table.specs.Words.{line_of}
 use Rattle.mc_text.specs.NameLists.{NameLists, slot_word}
 use Rattle.mc_top.specs.Drawn.{FollowsDraws, StopsBy, StopsDrawn}
-use Rattle.mc_top.specs.Journals.{IsJournalTo, IsStoppedJournal}
-use Rattle.mc_top.specs.Outcomes.{EndsBy, Stopping}
+use Rattle.mc_script_end.specs.Journals.{IsJournalTo, IsStoppedJournal}
+use Rattle.mc_script_end.specs.Ends.{EndsBy}
+use Rattle.mc_top.specs.Outcomes.{Stopping}
 use Rattle.mc_top.specs.Printed.{report_text, script_text}
-use Rattle.mc_settle_text.specs.Stops.{stop_line, stop_word}
-use Rattle.mc_settle_text.specs.Words.{box_word, place_word}
+use Rattle.mc_settle_text.specs.Stops.{stop_word}
+use Rattle.mc_settle_text.specs.Words.{box_word}
 use Rattle.mc_top.specs.Scripts.{ScriptState}
 use Rattle.mc_top.specs.declared.report.Report.{Report}
-use Rattle.mc_top.specs.declared.run.Run.{Run}
+use Rattle.mc_script_end.specs.declared.run.Run.{Run}
 use Rattle.mc_seq.specs.declared.stopping.SettleStop.{SettleStop}
 use Rattle.mc_seq.specs.declared.stopping.SettleStop.TheVariants.{Restless, Ring, VersionEnd}
-use Rattle.mc_top.proofs.Running.{GoesOn, next_left}
+use Rattle.mc_script_end.proofs.Running.{next_left}
+use Rattle.mc_top.proofs.Running.{GoesOn}
+use Rattle.mc_script_end.proofs.StopLines.{line_at, stop_line_same}
 
 -- ---- what a settle stops with
-
--- the line of a stop with this word, by the slot's place
-line_at : (names : NameLists) (world : WorldState) (word : List ℕ) (s : ℕ) (at : ℕ × ℕ) → at ≡ place world s → line_of (word ∷ slot_word names at.0 at.1 ∷ []) ≡ line_of (word ∷ place_word names world s ∷ [])
-line_at names world word s at there = ap (λ (p : ℕ × ℕ). line_of (word ∷ slot_word names p.0 p.1 ∷ [])) there
 
 -- where there are draws, what they decide of a stop is by their schedule
 drawn_weaker : (draws : Option ℕ) (P Q : ℕ → Type 0) → ((state : ℕ) → P state → Q state) → IfSome draws P → IfSome draws Q
@@ -106,16 +104,6 @@ stops_by names batch old (NeverRests stop) run stops drawn ends = stops_restless
 stops_by names batch old (NoMemory e) run stops drawn ends = absurd ends
 
 -- ---- what a script ran to that stopped
-
--- the places of slots are those of the beginning
-slot_line_same : (names : NameLists) (now start : WorldState) (word : List ℕ) (s : ℕ) → HasShape now start → line_of (word ∷ place_word names now s ∷ []) ≡ line_of (word ∷ place_word names start s ∷ [])
-slot_line_same names now start word s shape =
-    ap (λ (channels : List ChannelState). line_of (word ∷ slot_word names (slice_index_or (places_among channels) s (0, 0)).0 (slice_index_or (places_among channels) s (0, 0)).1 ∷ [])) shape.channels
-
-stop_line_same : (names : NameLists) (now start : WorldState) (stop : SettleStop) → HasShape now start → stop_line names now stop ≡ stop_line names start stop
-stop_line_same names now start (VersionEnd at) shape = slot_line_same names now start (stop_word (VersionEnd at)) at shape
-stop_line_same names now start (Ring at) shape = slot_line_same names now start (stop_word (Ring at)) at shape
-stop_line_same names now start (Restless at) shape = refl
 
 pub record EndsAtStop (report : Report) (names : NameLists) (start : WorldState) (first : Option ℕ) (all : List (List Turn)) (run : Run) : Type 0 where
   pub ran : IsJournalTo run.stop start all run.journal.items

@@ -20,7 +20,8 @@ use Rattle.mc_script.specs.declared.command.JournalLine.TheVariants.{Turn as Mad
 use Rattle.mc_text.specs.NameLists.{NameLists}
 use Rattle.mc_replay.specs.Journals.{IsJournal, lines_for}
 use Rattle.mc_top.specs.Modes.{output_of, report_of, tail_of, tells_why}
-use Rattle.mc_top.specs.Printed.{at_settles, journal_text, opening_text, report_text, script_text}
+use Rattle.mc_script_end.specs.Printed.{at_settles, journal_text}
+use Rattle.mc_top.specs.Printed.{opening_text, report_text, script_text}
 use Rattle.mc_settle_text.specs.Paths.{settle_text}
 use Rattle.mc_top.specs.TextAlone.{CallsPrintSame, HasNoConference, SettlesText, TextAloneDecides}
 use Rattle.mc_top.specs.Top.{Worked}
@@ -29,7 +30,7 @@ use Rattle.mc_top.specs.declared.report.Report.TheVariants.{Conference, Paths, S
 use Rattle.mc_words.specs.Commands.{prints_journal}
 use Rattle.mc_words.specs.declared.words.Mode.{Mode}
 use Rattle.mc_words.specs.declared.words.Mode.TheVariants.{Check, Conf, Gen, One, Run, Scene}
-use Rattle.mc_top.proofs.Running.{printed_after}
+use Rattle.mc_script_end.proofs.Running.{printed_after}
 use Rattle.mc_top.proofs.SeenAlike.{alike_seen, settle_same}
 use Rattle.mc_top.proofs.SeenNets.{Seen, declared_same, seen}
 use Rattle.mc_top.proofs.SummedAlike.{summary_same}

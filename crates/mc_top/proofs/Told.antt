@@ -15,14 +15,15 @@ use Rattle.mc_replay.proofs.Good.{good_or_faulty}
 use Rattle.mc_replay.specs.Faults.{IsJournalFault}
 use Rattle.mc_call.specs.Behind.{HasGoodJournal, HasJournal, HasJournalFault, has_bad_tail, tail_lines}
 use Rattle.mc_call.proofs.Told.{told_declares, told_fault}
-use Rattle.mc_top.specs.Journals.{ShowsCause}
+use Rattle.mc_script_end.specs.Journals.{ShowsCause}
 use Rattle.mc_top.specs.Top.{Ends, RefusesBox, RefusesCheck, StopsScript, ToldJournal}
 use Rattle.mc_call.specs.Calls.{IsTextOf, ToldDeclares, ToldFault}
-use Rattle.mc_top.specs.Modes.{CanCheck, CanConfer, CanRun, checks, has_feature, tail_of}
+use Rattle.mc_script_end.specs.Rings.{CanRun}
+use Rattle.mc_top.specs.Modes.{CanCheck, CanConfer, checks, has_feature, tail_of}
 use Rattle.mc_seq.specs.declared.stopping.SettleStop.{SettleStop}
-use Rattle.mc_top.specs.Rings.{AlwaysRests}
+use Rattle.mc_script_end.specs.Rings.{AlwaysRests}
 use Rattle.mc_call.proofs.BytesBehind.{bad_alike, lines_alike}
-use Rattle.mc_top.proofs.Causes.{never_stops}
+use Rattle.mc_script_end.proofs.Causes.{never_stops}
 use Rattle.mc_top.proofs.SeenNets.{Seen, declared_same, seen}
 use Rattle.mc_words.specs.Commands.{bytes_of}
 use Rattle.mc_words.specs.declared.words.Mode.{Mode}

@@ -34,7 +34,7 @@ use Rattle.mc_top.specs.Printed.{told_text, why_line, why_lines, whys_text}
 use Rattle.mc_settle_text.specs.Paths.{settle_text}
 use Rattle.mc_settle_text.specs.Words.{place_word}
 use Rattle.mc_top.specs.Shown.{ShowsPaths, printed_text}
-use Rattle.mc_top.proofs.Running.{after_settle}
+use Rattle.mc_script_end.proofs.Running.{after_settle}
 use Rattle.mc_top.proofs.ShownSettles.{shown_behind}
 use Rattle.mc_settle_text.proofs.Shown.{AreInside, are_inside, both_flow, settle_is, view_by}
 use Rattle.mc_view.specs.declared.PathView.{PathView}

@@ -1,5 +1,5 @@
 -- The parties of a conference have names.
-use Rattle.std.proofs.Common.{◌<◌, ℕ, Bool, All, length, map, slice_index_or, subst, sym}
+use Rattle.std.proofs.Common.{◌<◌, ℕ, Bool, All, map, slice_index_or, subst, sym}
 use Rattle.std.proofs.lemmas.List.Elements.{All-map}
 use Rattle.mc_box.specs.Boxes.{media_at}
 use Rattle.mc_conf.specs.Printed.{AreNamedEnds, IsNamedParty}
@@ -9,20 +9,7 @@ use Rattle.mc_model.specs.Worlds.{WorldState, box_at, place, slot_count}
 use Rattle.mc_net.specs.Nets.{NamesAll}
 use Rattle.mc_path.specs.Views.{end_view, path_flows, view_of}
 use Rattle.mc_settle_text.proofs.Shown.{are_inside, offered}
-use Rattle.mc_settle_text.specs.Names.{HasNames}
 use Rattle.mc_text.specs.NameLists.{NameLists}
-
--- names of all of a sound world are names for all that it has
-pub has_names : (names : NameLists) (world : WorldState) → IsSound world → NamesAll names world → HasNames names world
-has_names names world sound all = record {
-  boxes = all.boxes;
-  slots = λ s inside.
-      let who : (place world s).0 < length world.boxes = sound.numbered.placed s inside in (
-        subst (λ (n : ℕ). (place world s).0 < n) (sym all.boxes) who,
-        subst (λ (n : ℕ). (place world s).1 < n) (sym (all.slots (place world s).0 who)) (sound.numbered.slots s inside),
-      );
-  codecs = all.codecs;
-}
 
 -- the box, the slot and the own codecs of an end have names
 party_named : (names : NameLists) (world : WorldState) (flowing : Bool) (s : ℕ) → NamesAll names world → IsSound world → s < slot_count world → IsNamedParty names (end_view world flowing s)

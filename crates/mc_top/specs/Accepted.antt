@@ -6,7 +6,7 @@ use Rattle.mc_script.specs.declared.command.JournalLine.{JournalLine}
 use Rattle.mc_text.specs.NameLists.{NameLists}
 use Rattle.mc_call.specs.Behind.{is_too_long}
 use Rattle.mc_top.specs.Modes.{CanCheck, output_of}
-use Rattle.mc_top.specs.Printed.{journal_part}
+use Rattle.mc_script_end.specs.Printed.{journal_part}
 use Rattle.mc_top.specs.Top.{RefusesCheck, Worked}
 use Rattle.mc_words.specs.Commands.{prints_journal}
 use Rattle.mc_words.specs.declared.words.Mode.{Mode}

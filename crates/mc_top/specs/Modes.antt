@@ -6,12 +6,9 @@ use Rattle.mc_model.specs.Worlds.{WorldState, box_at}
 use Rattle.mc_text.specs.NameLists.{NameLists, place_of}
 use Rattle.std.specs.declared.alloc.Global.{Global}
 use Rattle.std.specs.declared.option.Option.{Option}
-use Rattle.mc_lines.specs.SoFar.{Declared}
 use Rattle.mc_lines.specs.declared.tail.Tail.{Tail}
 use Rattle.mc_lines.specs.declared.tail.Tail.TheVariants.{Nothing, Journal}
 use Rattle.mc_net.specs.Nets.{DeclaresNet}
-use Rattle.mc_net.specs.Texts.{Says}
-use Rattle.mc_net.specs.Versions.{MeetsNoLast}
 use Rattle.mc_net.specs.declared.net.Net.{Net}
 use Rattle.mc_scene.specs.Generated.{generated}
 use Rattle.mc_scene.specs.Scenes.{scene_text}
@@ -19,14 +16,15 @@ use Rattle.mc_scene.specs.declared.limit.TheConstants.{NUMBER_LIMIT, SIZE_LIMIT}
 use Rattle.mc_script.specs.declared.command.JournalLine.{JournalLine}
 use Rattle.mc_call.specs.Behind.{HasGoodJournal}
 use Rattle.mc_call.specs.Reasons.{IsFaultOfTold, Told}
-use Rattle.mc_top.specs.Printed.{checked_text, conferences_text, journal_text, run_text, summaries_text}
-use Rattle.mc_top.specs.Rings.{AlwaysRests}
+use Rattle.mc_script_end.specs.Printed.{journal_text}
+use Rattle.mc_top.specs.Printed.{checked_text, conferences_text, run_text, summaries_text}
 use Rattle.mc_top.specs.Summaries.{heading_text}
 use Rattle.mc_top.specs.declared.report.Report.{Report}
 use Rattle.mc_top.specs.declared.report.Report.TheVariants.{Conference, Paths, Summary}
 use Rattle.mc_words.specs.Commands.{IsCommand, bytes_of}
 use Rattle.mc_words.specs.declared.words.Mode.{Mode}
 use Rattle.mc_words.specs.declared.words.Mode.TheVariants.{Check, Conf, Gen, One, Run, Scene}
+use Rattle.mc_script_end.specs.Rings.{CanRun}
 
 -- the numbers of a mode are within the limits of generated texts
 abbrev pub IsWithinLimits : Mode → Type 0
@@ -113,10 +111,6 @@ has_box (Conf name) names world = has_feature names world (bytes_of name)
 -- the number of a box that has a name
 abbrev pub box_number : NameLists → List ℕ → ℕ
 box_number names name = unwrap_or (place_of names.boxes name) 0
-
--- a text declares a network, in whose script no Hear meets the last version and each batch comes to rest
-abbrev pub CanRun : List ℕ → Type 0
-CanRun text = (d : Declared) × Says Nothing text d × MeetsNoLast d × AlwaysRests d
 
 -- a text declares a network, and the journal after its commands settles all batches
 pub record CanCheck (text : List ℕ) : Type 0 where

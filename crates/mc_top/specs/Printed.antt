@@ -14,7 +14,6 @@ use Rattle.mc_settle_text.specs.Paths.{settle_text}
 use Rattle.mc_settle_text.specs.Stops.{stop_line}
 use Rattle.mc_settle_text.specs.Words.{place_word}
 use Rattle.mc_text.specs.NameLists.{NameLists}
-use Rattle.mc_journal.specs.Printed.{print_journal}
 use Rattle.mc_table.specs.Whys.{why_word}
 use Rattle.mc_table.specs.Words.{line_of}
 use Rattle.mc_replay.specs.Journals.{next_world}
@@ -24,18 +23,9 @@ use Rattle.mc_top.specs.Summaries.{heading_text, summary_text}
 use Rattle.mc_top.specs.declared.report.Report.{Report}
 use Rattle.mc_top.specs.declared.report.Report.TheVariants.{Conference, Paths, Summary}
 use Rattle.mc_seq.specs.declared.stopping.SettleStop.{SettleStop}
+use Rattle.mc_script_end.specs.Printed.{at_settles, journal_text, with_journal}
 
 -- ---- journals
-
--- what is printed at the settles that replaying a journal from a world gives, numbered from a number on
-abbrev pub at_settles : (print : ℕ → WorldState → List ℕ) → ℕ → WorldState → List JournalLine → List ℕ
-at_settles print number world [] = []
-at_settles print number world (Made turn ∷ journal) = at_settles print number (next_world world turn) journal
-at_settles print number world (Settled ∷ journal) = print number world ++ at_settles print (number + 1) world journal
-
--- the settles of a journal, each with its paths
-abbrev pub journal_text : NameLists → ℕ → WorldState → List JournalLine → List ℕ
-journal_text names number world journal = at_settles (settle_text names) number world journal
 
 -- the settles of a journal, each in one line
 abbrev pub summaries_text : ℕ → WorldState → List JournalLine → List ℕ
@@ -103,17 +93,6 @@ abbrev pub script_text : Report → NameLists → WorldState → Option SettleSt
 script_text report names world None journal =
     opening_text report world ++ at_settles (report_text report names) 1 world journal
 script_text report names world (Some stop) journal = stop_line names world stop
-
--- ---- the journal itself
-
--- the line `journal`, and each line of the journal
-abbrev pub journal_part : NameLists → List JournalLine → List ℕ
-journal_part names journal = line_of (codes "journal" ∷ []) ++ print_journal names journal
-
--- after what was printed, where it is asked for and the script came to its end
-abbrev pub with_journal : (asked : Bool) → Option SettleStop → NameLists → List JournalLine → List ℕ → List ℕ
-with_journal true None names journal text = text ++ journal_part names journal
-with_journal asked stop names journal text = text
 
 -- all that is printed for a script
 abbrev pub run_text : Report → (asked : Bool) → NameLists → WorldState → Option SettleStop → List JournalLine → List ℕ

@@ -4,7 +4,7 @@ use Rattle.mc_scene.specs.Generated.{generated}
 use Rattle.mc_scene.specs.Scenes.{scene_text}
 use Rattle.mc_scene.specs.declared.limit.TheConstants.{SIZE_LIMIT}
 use Rattle.mc_scene.specs.declared.scenes.Scene.{Scene}
-use Rattle.mc_top.specs.Modes.{CanRun}
+use Rattle.mc_script_end.specs.Rings.{CanRun}
 
 -- the text of each scene can be run
 abbrev pub ScenesCanRun : Type 0

@@ -9,7 +9,7 @@ use Rattle.mc_scene.specs.Outputs.{scene_output}
 use Rattle.mc_scene.specs.Scenes.{scene_text}
 use Rattle.mc_scene.specs.declared.scenes.Scene.{Scene}
 use Rattle.mc_script.specs.declared.command.JournalLine.{JournalLine}
-use Rattle.mc_top.specs.Printed.{journal_text}
+use Rattle.mc_script_end.specs.Printed.{journal_text}
 
 -- each journal that settles the batches of a scene prints its stated output
 abbrev pub ScenesPrintTheSame : Type 0

@@ -12,7 +12,7 @@ use Rattle.mc_replay.specs.Segments.{EachKeepsShiftLimit}
 use Rattle.mc_call.specs.Behind.{HasJournal, HasJournalFault}
 use Rattle.mc_call.specs.Calls.{Delivers, IsTextOf, ReadsWhole, ToldDeclares, ToldFault}
 use Rattle.mc_top.specs.Drawn.{FollowsDraws, IsDrawnJournal}
-use Rattle.mc_top.specs.Journals.{IsStoppedJournal, ShowsCause}
+use Rattle.mc_script_end.specs.Journals.{IsStoppedJournal, ShowsCause}
 use Rattle.mc_top.specs.Modes.{checks, draws_from, has_box, output_of, reads, tail_of}
 use Rattle.mc_call.specs.Printed.{fault_line, journal_fault_line, no_box_line}
 use Rattle.mc_settle_text.specs.Stops.{stop_line}

@@ -10,7 +10,8 @@ ghost use Rattle.mc_replay.specs.Replays.{views_of};
 ghost use Rattle.mc_replay.specs.Told.{whys_of};
 ghost use Rattle.mc_table.specs.Shown.{IsNamedView, print_settle};
 ghost use Rattle.mc_table.specs.Whys.{print_whys};
-ghost use Rattle.mc_top.specs.Printed.{journal_text, told_text};
+ghost use Rattle.mc_script_end.specs.Printed.{journal_text};
+ghost use Rattle.mc_top.specs.Printed.{told_text};
 ghost use Rattle.mc_top.specs.declared.checking.TailFault.TheVariants.{NoMemory};
 ghost use Rattle.mc_top.specs.Shown.{printed_text, shown_text};
 

@@ -8,13 +8,13 @@ ghost use Rattle.mc_top.specs.JournalLaws.{PrintedJournalsAreGood, RunsAreReadBa
 ghost use Rattle.mc_top.specs.SceneLaws.{GeneratedCanRun, ScenesCanRun};
 ghost use Rattle.mc_top.specs.SceneOutputs.{ScenesPrintTheSame};
 ghost use Rattle.mc_top.specs.TextAlone.{CallsPrintSame, TextAloneDecides};
-ghost use Rattle.mc_top.specs.Words.{FirstWorldsAwaitWords};
 
 use mc_replay::laws::one_journal_fault;
 pub use mc_scene_laws::laws::{
     chains_are_texts, drawn_chains_are_numbered, generated_are_texts, generated_are_unprogrammed,
     generated_come_to_rest, generated_leave_decided, scenes_are_texts, scenes_come_to_rest,
 };
+pub use mc_script_end::laws::first_worlds_await_words;
 use mc_seq::laws::schedule_is_one;
 
 /// The first state of the draws leaves no choice: there is one journal of settles by draws, and one stop or none.
@@ -59,12 +59,6 @@ pub fn good_is_not_refused()
 /// What `gen` prints is decided by its words, though its journal isn't.
 pub fn gen_prints_alike()
     ensures { GenPrintsAlike }
-{}
-
-/// In the first world of a text no box was told a word, so the words that its batches tell bound the Shifts of programs
-/// that go by words.
-pub fn first_worlds_await_words()
-    ensures { FirstWorldsAwaitWords }
 {}
 
 /// The journal that a run of a text prints is read again, line by line.

@@ -6,7 +6,6 @@ mod checking;
 mod growing;
 pub mod laws;
 mod modes;
-mod print;
 mod report;
 mod run;
 mod script_network;
@@ -14,8 +13,9 @@ mod top;
 mod viewer;
 
 pub use checking::TailFault;
+pub use mc_script_end::Run;
 pub use mc_seq::SettleStop;
 pub use mc_words::{Mode, read_mode};
 pub use report::Report;
-pub use run::{Run, run_script};
+pub use run::run_script;
 pub use top::{check_by_net, media_top, text_of};

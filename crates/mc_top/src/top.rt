@@ -4,7 +4,7 @@ ghost use Rattle.mc_call.specs.Answers.{Answers};
 ghost use Rattle.mc_call.specs.Behind.{HasJournal, has_bad_tail, tail_lines};
 ghost use Rattle.mc_call.specs.Calls.{Delivers, GivesUp, HasReadWhole, PrintsUsage};
 ghost use Rattle.mc_call.specs.Reasons.{EndsFor, Explains, IsFaultOf, IsFaultOfTold, usage_reason};
-ghost use Rattle.mc_call.specs.Statuses.{due_by, judges_text, keeps_journal};
+ghost use Rattle.mc_call.specs.Statuses.{judges_text, keeps_journal};
 ghost use Rattle.mc_cause.specs.CauseLaws.{NoneCloses};
 ghost use Rattle.mc_grown_rest.specs.GrowingTexts.{CanGrow};
 ghost use Rattle.mc_io.specs.Bytes.{ConsumesAtMost};
@@ -23,7 +23,7 @@ ghost use Rattle.mc_script.specs.Places.{Fits};
 ghost use Rattle.mc_top.specs.Asked.{AskFor};
 ghost use Rattle.mc_top.specs.Drawn.{FollowsDraws};
 ghost use Rattle.mc_top.specs.Growing.{EndsGrownAs, IsGrowingFaultOfTold};
-ghost use Rattle.mc_top.specs.Journals.{IsJournalTo, ShowsCause};
+ghost use Rattle.mc_script_end.specs.Journals.{IsJournalTo, ShowsCause};
 ghost use Rattle.mc_top.specs.Modes.{AsksToRead, IsFaultByWords, IsWithinLimits, IsWorkable, checks, draws_from, has_box, reads, report_of, tail_of, text_for};
 ghost use Rattle.mc_top.specs.Printed.{checked_text, run_text};
 ghost use Rattle.mc_top.specs.Refusals.{RefusesCheckBy, RefusesTail};
@@ -36,12 +36,12 @@ ghost use Rattle.mc_words.specs.declared.words.Mode.TheVariants.{Check, Scene as
 use crate::checking::{TailFault, check_script, tell_script};
 use crate::growing::grow;
 use crate::modes::{draws_from, has_box, report_of, tail_of};
-use crate::run::{Run, run_script, with_journal};
+use crate::run::run_script;
 use mc_box::Shape;
 use mc_call::status::{NO_MEMORY, READ_FAULT, USAGE, WORKED, WRITE_FAULT};
 use mc_call::{
-    Done, TailPlace, deliver, due_by, give_up, journal_behind, journal_line, refuse_journal,
-    refuse_name, refuse_text, refuse_words, stop_reason,
+    Done, TailPlace, deliver, give_up, journal_behind, journal_line, refuse_journal, refuse_name,
+    refuse_text, refuse_words, stop_reason,
 };
 use mc_explain::Reason;
 use mc_io::{Gate, Sink, Source, SourceFault, read_up_to};
@@ -49,6 +49,7 @@ use mc_net::{JOURNAL_TEXT_LIMIT, Net, NetFault, TEXT_LIMIT, read_net};
 use mc_replay::ReplayFault;
 use mc_scene::{generated, scene_text};
 use mc_script::{Batch, JournalLine, JournalText};
+use mc_script_end::{Run, deliver_run, with_journal};
 use mc_text::Names;
 use mc_words::{Mode, asks_to_grow, read_mode};
 use mc_world::World;
@@ -73,24 +74,6 @@ pub fn text_of<S: Source>(alloc: Global, mode: Mode, source: &mut S) -> Result<V
         Mode::Gen { number, size } => Ok(generated(alloc, number, size)?),
         Mode::Scene { scene } => Ok(scene_text(alloc, scene)?),
     }
-}
-
-// Writes what a script printed.
-fn deliver_run<K: Sink>(sink: &mut K, run: Run, reason: Reason) -> Done
-    ensures delivers { Delivers result.status result.due (K.written sink.old) (K.written sink.new) run.output.items }
-    ensures due { result.due ≡ due_by run.stop }
-    ensures status { (result.status ≡ due_by run.stop) ⊎ (result.status ≡ WRITE_FAULT) }
-    ensures journal { result.journal ≡ run.journal }
-    ensures reason { EndsFor reason result.due result }
-    ensures fault { K.faults sink.new ≡ faults_after (K.faults sink.old) (result.status == WRITE_FAULT) }
-{
-    let due = due_by(run.stop);
-    let Run {
-        output,
-        journal,
-        ..
-    } = run;
-    deliver(sink, due, &output, journal, reason)
 }
 
 // Runs the script of the network that a text declares. After what it prints stands its journal, where the mode asks for

@@ -1,5 +1,6 @@
 use Rattle.mc_settle_text.proofs.Shown.{views_named}
-use Rattle.mc_top.proofs.Viewing.{has_names, parties_named}
+use Rattle.mc_script_end.proofs.Running.{has_names}
+use Rattle.mc_top.proofs.Viewing.{parties_named}
 use Rattle.mc_top.specs.Scripts.{network_world}
 use Rattle.mc_top.proofs.run.print_settle.Goals as goal
 

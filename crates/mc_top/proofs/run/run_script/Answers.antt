@@ -6,8 +6,9 @@ use Rattle.mc_top.specs.Drawn.{draws_state}
 use Rattle.mc_top.specs.Outcomes.{CameOf, Stopping}
 use Rattle.mc_top.specs.Printed.{opening_text, report_text}
 use Rattle.mc_top.specs.Scripts.{Settling}
-use Rattle.mc_top.proofs.Causes.{ran_shows}
-use Rattle.mc_top.proofs.Running.{all_drawn, all_limited, all_printed, all_settled, batch_allowed, goes_first, goes_next, goes_to_end, ran_holds}
+use Rattle.mc_script_end.proofs.Causes.{ran_shows}
+use Rattle.mc_script_end.proofs.Running.{ran_holds}
+use Rattle.mc_top.proofs.Running.{all_drawn, all_limited, all_printed, all_settled, batch_allowed, goes_first, goes_next, goes_to_end}
 use Rattle.mc_top.proofs.Stopping.{EndsAtStop, stops_at}
 use Rattle.mc_top.proofs.run.run_script.Goals as goal
 

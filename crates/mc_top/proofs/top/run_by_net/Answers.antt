@@ -1,6 +1,6 @@
 use Rattle.std.proofs.Common.{subst, sym}
 use Rattle.mc_top.proofs.Ending.{named_box}
-use Rattle.mc_top.proofs.NamedJournals.{ran_named}
+use Rattle.mc_script_end.proofs.NamedJournals.{ran_named}
 use Rattle.mc_top.proofs.Stopping.{limited_whole}
 use Rattle.mc_top.specs.Modes.{tail_of}
 use Rattle.mc_top.specs.Shown.{HasNamedBox}

@@ -5,10 +5,10 @@ use Rattle.mc_replay.specs.Journals.{lines_for}
 use Rattle.mc_top.specs.Outcomes.{Stopping}
 use Rattle.mc_top.specs.Printed.{report_text}
 use Rattle.mc_top.specs.Scripts.{ScriptState, Settling, network_draws, network_world}
-use Rattle.mc_top.proofs.Running.{IsAfterSettle, after_settle}
+use Rattle.mc_script_end.proofs.Running.{IsAfterSettle, after_settle}
 use Rattle.mc_settle_text.proofs.Named.{fault_named}
 use Rattle.mc_top.proofs.Stopping.{stops_by}
-use Rattle.mc_top.proofs.Viewing.{has_names}
+use Rattle.mc_script_end.proofs.Running.{has_names}
 use Rattle.mc_top.proofs.Summing.{report_is}
 use Rattle.mc_top.proofs.run.Progress.settle.Goals as goal
 

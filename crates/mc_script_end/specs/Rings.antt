@@ -1,8 +1,11 @@
--- Texts whose batches all come to rest.
-use Rattle.std.specs.Prelude.{◌⊎◌}
+-- Texts whose batches all come to rest, and whose scripts come to their end.
+use Rattle.std.specs.Prelude.{◌⊎◌, ℕ, List}
 use Rattle.mc_model.specs.Worlds.{WorldState}
 use Rattle.mc_net.specs.Nets.{IsFirstWorld, IsUnprogrammed, batches_of}
+use Rattle.mc_net.specs.Texts.{Says}
+use Rattle.mc_net.specs.Versions.{MeetsNoLast}
 use Rattle.mc_lines.specs.SoFar.{Declared}
+use Rattle.mc_lines.specs.declared.tail.Tail.TheVariants.{Nothing}
 use Rattle.mc_settings.specs.Batches.{LeavesNoRing}
 use Rattle.mc_laws.specs.Chains.{ClosesNoChain}
 use Rattle.mc_grown_rest.specs.Rests.{RestsByWords}
@@ -21,3 +24,7 @@ GoesByNames d =
 -- shows it, whatever its programs do
 abbrev pub AlwaysRests : Declared → Type 0
 AlwaysRests d = (IsUnprogrammed d × MakesNoRing d) ⊎ GoesByNames d
+
+-- a text declares a network, in whose script no Hear meets the last version and each batch comes to rest
+abbrev pub CanRun : List ℕ → Type 0
+CanRun text = (d : Declared) × Says Nothing text d × MeetsNoLast d × AlwaysRests d

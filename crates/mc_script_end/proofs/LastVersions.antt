@@ -21,11 +21,11 @@ use Rattle.mc_net.specs.Versions.{MeetsNoLast}
 use Rattle.mc_net.specs.declared.net.Net.{Net}
 use Rattle.mc_net.proofs.Versions.{first_versions}
 use Rattle.mc_script.specs.declared.command.JournalLine.{JournalLine}
-use Rattle.mc_top.specs.Journals.{IsStoppedJournal}
+use Rattle.mc_script_end.specs.Journals.{IsStoppedJournal}
 use Rattle.mc_seq.specs.declared.stopping.SettleStop.TheVariants.{VersionEnd}
 
 -- one batch before the others
-hears_more : (who local : ℕ) (batch : List Turn) (batches : List (List Turn)) → hears_in who local (batch ∷ batches) ≡ hears_of who local batch + hears_in who local batches
+pub hears_more : (who local : ℕ) (batch : List Turn) (batches : List (List Turn)) → hears_in who local (batch ∷ batches) ≡ hears_of who local batch + hears_in who local batches
 hears_more who local batch batches = sum_by-cons (hears_of who local) batch batches
 
 -- in the first of the batches, or in a later one

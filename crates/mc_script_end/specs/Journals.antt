@@ -24,7 +24,8 @@ IsCause (Ring at) batch turns last = UseUp batch turns × IsFirstOnRing last at
 IsCause (Restless at) batch turns last = UseUp batch turns × IsRestless turns last at
 
 -- turns that stopped within a batch, with their cause; they have no mark
-pub record StopsBatch (world : WorldState) (batch : List Turn) (stop : SettleStop) (journal : List JournalLine) : Type 0 where
+pub record StopsBatch (world : WorldState) (batch : List Turn) (stop : SettleStop)
+    (journal : List JournalLine) : Type 0 where
   pub turns : List Turn
   pub last : WorldState
   pub lines : journal ≡ map Made turns

@@ -12,19 +12,19 @@ use Rattle.mc_lines.specs.declared.tail.Tail.TheVariants.{Nothing}
 use Rattle.mc_net.specs.Versions.{MeetsNoLast}
 use Rattle.mc_net.specs.declared.net.Net.{Net}
 use Rattle.mc_script.specs.declared.command.JournalLine.{JournalLine}
-use Rattle.mc_top.specs.Journals.{IsJournalTo, ShowsCause}
+use Rattle.mc_script_end.specs.Journals.{IsJournalTo, ShowsCause}
 use Rattle.mc_settings.specs.Batches.{LeavesNoRing}
-use Rattle.mc_top.specs.Rings.{AlwaysRests}
+use Rattle.mc_script_end.specs.Rings.{AlwaysRests}
 use Rattle.mc_laws.specs.Chains.{ClosesNoChain}
 use Rattle.mc_grown_rest.specs.Rests.{RestsByWords}
 use Rattle.mc_laws.specs.Versions.{PassesLast}
 use Rattle.mc_model.specs.Settles.{hears_in}
 use Rattle.mc_seq.specs.declared.stopping.SettleStop.{SettleStop}
 use Rattle.mc_seq.specs.declared.stopping.SettleStop.TheVariants.{Restless, Ring, VersionEnd}
-use Rattle.mc_top.proofs.LastVersions.{none_passes, same_says, stopped_passes}
-use Rattle.mc_top.proofs.LeftRings.{stopped_leaves}
-use Rattle.mc_top.proofs.NamedRings.{closes_none}
-use Rattle.mc_top.proofs.ToldWords.{none_restless, words_rest}
+use Rattle.mc_script_end.proofs.LastVersions.{none_passes, same_says, stopped_passes}
+use Rattle.mc_script_end.proofs.LeftRings.{stopped_leaves}
+use Rattle.mc_script_end.proofs.NamedRings.{closes_none}
+use Rattle.mc_script_end.proofs.ToldWords.{none_restless, words_rest}
 
 -- whatever the stop is
 pub ran_shows : (stop : Option SettleStop) (batches : List (List Turn)) (world : WorldState) (journal : List JournalLine) → IsSound world → IsJournalTo stop world batches journal → ShowsCause stop world batches

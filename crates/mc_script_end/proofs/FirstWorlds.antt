@@ -9,7 +9,7 @@ use Rattle.mc_plan.specs.declared.plan.BoxPlan.{BoxPlan}
 use Rattle.mc_program_lines.specs.Finished.{program_of}
 use Rattle.mc_program_lines.specs.Programs.{BlockState}
 use Rattle.mc_net.specs.Nets.{with_programs}
-use Rattle.mc_top.specs.Words.{FirstWorldsAwaitWords}
+use Rattle.mc_script_end.specs.Words.{FirstWorldsAwaitWords}
 
 -- no box of a plan was told a word
 plan_untold : (channels : List ChannelState) (plans : List BoxPlan) (first who : ℕ) → (get_or (boxes_from channels first plans) who no_box).told ≡ None

@@ -18,7 +18,7 @@ use Rattle.mc_model.specs.Sound.{IsSound}
 use Rattle.mc_model.specs.Unprogrammed.{HasNoPrograms}
 use Rattle.mc_model.specs.Worlds.{WorldState, box_at}
 use Rattle.mc_script.specs.declared.command.JournalLine.{JournalLine}
-use Rattle.mc_top.specs.Journals.{IsStoppedJournal}
+use Rattle.mc_script_end.specs.Journals.{IsStoppedJournal}
 use Rattle.mc_grown_rest.specs.Rests.{RestsByWords, TellsFew}
 use Rattle.mc_seq.specs.declared.stopping.SettleStop.TheVariants.{Restless}
 
@@ -61,25 +61,25 @@ kept_by false mine who turn rest is same =
     let none : counted who turn ≡ 0 = of_none (is_tell turn.event) (turn.who == who) (tell_commands turn.event is) in omega arith
 
 -- the commands of its box have the Tells of a box
-commands_tell : (turns : List Turn) (who : ℕ) → count_by (is_tell_of who) (commands_of who turns) ≡ count_by (is_tell_of who) turns
+pub commands_tell : (turns : List Turn) (who : ℕ) → count_by (is_tell_of who) (commands_of who turns) ≡ count_by (is_tell_of who) turns
 commands_tell [] who = refl
 commands_tell (turn ∷ turns) who =
     kept_by (is_command turn.event) (turn.who == who) who turn (commands_of who turns) refl refl
     ∙ (ap (λ (n : ℕ). counted who turn + n) (commands_tell turns who) ∙ sym (tells_cons who turn turns))
 
 -- so turns that use a batch up have its Tells
-same_tells : (who : ℕ) (batch turns : List Turn) → commands_of who turns ≡ commands_of who batch → count_by (is_tell_of who) turns ≡ count_by (is_tell_of who) batch
+pub same_tells : (who : ℕ) (batch turns : List Turn) → commands_of who turns ≡ commands_of who batch → count_by (is_tell_of who) turns ≡ count_by (is_tell_of who) batch
 same_tells who batch turns same = sym (commands_tell turns who) ∙ (ap (count_by (is_tell_of who)) same ∙ commands_tell batch who)
 
 -- ---- settle by settle
 
 -- what holds at the beginning of each settle: programs go by words, and at most one Shift of each box is still to come
-record StillByWords (world : WorldState) (batches : List (List Turn)) : Type 0 where
+pub record StillByWords (world : WorldState) (batches : List (List Turn)) : Type 0 where
   pub by_words : ShiftsByWords world
   pub one_left : (who : ℕ) → still_to_come (box_at world who) ≤ 1
   pub few : AllByRecursion TellsFew batches
 
-still_first : (world : WorldState) (batches : List (List Turn)) → RestsByWords world batches → StillByWords world batches
+pub still_first : (world : WorldState) (batches : List (List Turn)) → RestsByWords world batches → StillByWords world batches
 still_first world batches rests = record {
   by_words = rests.by_words;
   one_left = λ who. untold_to_come (box_at world who) (rests.untold who);
@@ -108,7 +108,7 @@ words_rest batches world at journal sound stopped rests = by_words batches world
 
 -- ---- no programs
 
-no_shift : (box : BoxState) → box.program ≡ None → is_enabled box Shift ≡ true → ⊥
+pub no_shift : (box : BoxState) → box.program ≡ None → is_enabled box Shift ≡ true → ⊥
 no_shift box none can = let not : is_enabled box Shift ≡ false = rw none refl in cc
 
 -- nor does one without programs

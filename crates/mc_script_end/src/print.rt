@@ -1,7 +1,7 @@
 // What is printed for a journal.
 ghost use Rattle.std.specs.Prelude.{◌≡◌, ◌++◌, All, OnOk};
 ghost use Rattle.mc_journal.specs.Printed.{IsNamedLine};
-ghost use Rattle.mc_top.specs.Printed.{journal_part};
+ghost use Rattle.mc_script_end.specs.Printed.{journal_part};
 
 use mc_journal::print_journal;
 use mc_script::JournalLine;

@@ -9,7 +9,7 @@ use Rattle.mc_laws.specs.Chains.{ClosesNoChain, LinksAreNamed}
 use Rattle.mc_model.specs.Sound.{IsSound}
 use Rattle.mc_model.specs.Worlds.{WorldState}
 use Rattle.mc_script.specs.declared.command.JournalLine.{JournalLine}
-use Rattle.mc_top.specs.Journals.{IsStoppedJournal}
+use Rattle.mc_script_end.specs.Journals.{IsStoppedJournal}
 use Rattle.mc_seq.specs.declared.stopping.SettleStop.TheVariants.{Ring}
 
 -- in the first of the batches that are left, or in a later one

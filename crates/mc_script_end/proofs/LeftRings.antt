@@ -10,7 +10,7 @@ use Rattle.mc_model.specs.Worlds.{WorldState}
 use Rattle.mc_script.specs.declared.command.JournalLine.{JournalLine}
 use Rattle.mc_settings.specs.Batches.{LeavesNoRing}
 use Rattle.mc_settings.proofs.BatchesLeft.{no_ring_is_met, no_ring_stays}
-use Rattle.mc_top.specs.Journals.{IsStoppedJournal}
+use Rattle.mc_script_end.specs.Journals.{IsStoppedJournal}
 use Rattle.mc_seq.specs.declared.stopping.SettleStop.TheVariants.{Ring}
 
 -- in the first of the batches, or in a later one

@@ -1,0 +1,10 @@
+pub mod Causes
+pub mod Ending
+pub mod FirstWorlds
+pub mod LastVersions
+pub mod LeftRings
+pub mod NamedJournals
+pub mod NamedRings
+pub mod Running
+pub mod StopLines
+pub mod ToldWords

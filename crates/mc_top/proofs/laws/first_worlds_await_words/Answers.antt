@@ -1,5 +1,0 @@
-use Rattle.mc_top.proofs.FirstWorlds.{first_worlds_await_words}
-use Rattle.mc_top.proofs.laws.first_worlds_await_words.Goals as goal
-
-pub returns : goal.returns
-returns c = first_worlds_await_words
