@@ -1,0 +1,3 @@
+pub mod BehindLeft
+pub mod Dealt
+pub mod Owners

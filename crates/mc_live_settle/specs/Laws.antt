@@ -1,5 +1,5 @@
 -- Laws of live settles and of orders.
-use Rattle.std.specs.Prelude.{◌≡◌, ◌++◌, ℕ, Bool, List, count_by}
+use Rattle.std.specs.Prelude.{◌≡◌, ◌++◌, ℕ, ◌<◌, Bool, List, count_by}
 use Rattle.mc_box.specs.declared.event.Turn.{Turn}
 use Rattle.mc_model.specs.Settles.{IsSettled, IsStopped, MeetsLast, commands_of}
 use Rattle.mc_model.specs.Worlds.{WorldState}
@@ -42,8 +42,8 @@ SettlesWhatIsUsed =
     (world last : WorldState) (batch order turns : List Turn) → UseUp batch order → IsSettled world order turns last
     → IsSettled world batch turns last
 
--- an order has as many commands of each kind for each box as the batch
+-- an order has as many commands of each kind for each box as the batch, where there is an operator
 abbrev pub OrdersHaveTheSame : Type 0
 OrdersHaveTheSame =
-    (operators : ℕ) (batch order : List Turn) → IsOrderOf operators batch order → (kind : Turn → Bool) (who : ℕ)
-    → count_by kind (commands_of who order) ≡ count_by kind (commands_of who batch)
+    (operators : ℕ) (batch order : List Turn) → 0 < operators → IsOrderOf operators batch order
+    → (kind : Turn → Bool) (who : ℕ) → count_by kind (commands_of who order) ≡ count_by kind (commands_of who batch)

@@ -33,7 +33,8 @@ pub fn settles_what_is_used()
     ensures { SettlesWhatIsUsed }
 {}
 
-/// An order has as many commands of each kind for each box as the batch, however many operators it is dealt to.
+/// An order has as many commands of each kind for each box as the batch, however many operators it is dealt to, if there
+/// is one.
 pub fn orders_have_the_same()
     ensures { OrdersHaveTheSame }
 {}

@@ -1,5 +1,5 @@
-//! Live settles: a batch's commands are dealt to operators, who ask for them while the boxes of a world run freely; what
-//! is left is then settled.
+//! Live settles: a batch's commands are dealt to operators, who ask for them while the boxes of a world run freely;
+//! what is left is then settled.
 #![tactic(auto)]
 
 mod behind;

@@ -18,15 +18,15 @@ use std::alloc::Global;
 use std::sync::Wait;
 use std::thread::Threads;
 
-/// Settles one batch of a world, while its boxes run freely. The commands are dealt to 1 to 8 operators (`deal`), who ask
-/// for them at once in one phase (`mc_phase::live_phase`); what is then left is settled in parts
-/// (`mc_rounds::settle_rounds`), and the owed Retries come there. The turns are those of the phase and then those of the
-/// settle.
+/// Settles one batch of a world, while its boxes run freely. The commands are dealt to 1 to 8 operators (`deal`), who
+/// ask for them at once in one phase (`mc_phase::live_phase`); what is then left is settled in parts
+/// (`mc_rounds::settle_rounds`), and the owed Retries come there. The turns are those of the phase and then those of
+/// the settle.
 ///
-/// The world allows each command, and has at most 256 boxes; there are fewer than 4,294,967,295 commands. Box by box the
-/// commands come in an order in which each operator's own keep theirs. It stops as `settle_rounds` does, with all turns
-/// until then; Shifts of the phase don't count towards the limit of a settle. The world is gone where it doesn't rest.
-/// That it returns isn't promised, because `live_phase` may wait.
+/// The world allows each command, and has at most 256 boxes; there are fewer than 4,294,967,295 commands. Box by box
+/// the commands come in an order in which each operator's own keep theirs. It stops as `settle_rounds` does, with all
+/// turns until then; Shifts of the phase don't count towards the limit of a settle. The world is gone where it doesn't
+/// rest. That it returns isn't promised, because `live_phase` may wait.
 pub fn settle_live<R: Threads + Wait + Sync, G: Gate + Sync>(
     rt: &R,
     alloc: Global,
