@@ -1,11 +1,14 @@
 -- The commands of a batch, dealt to operators.
-use Rattle.std.proofs.Common.{◌≡◌, ◌+◌, ◌<◌, ◌≤◌, ◌%◌, ◌==◌, ◌&&◌, cond, ℕ, Bool, true, false, List, [], ◌∷◌, ◌++◌, length, count_by, get_or, map, append_assoc, refl, sym, ap, ◌∙◌, subst, arith}
+use Rattle.std.proofs.Common.{◌≡◌, ◌≢◌, ◌+◌, ◌<◌, ◌≤◌, ◌%◌, ◌==◌, ◌&&◌, cond, ℕ, suc, Bool, true, false, List, [], ◌∷◌, ◌++◌, length, count_by, get_or, map, append_assoc, drop, drop-cons, refl, sym, ap, ◌∙◌, subst, arith}
 use Rattle.std.specs.List.{AllByRecursion, list_all, range_with_len}
+use Rattle.std.specs.declared.alloc.Global.{Global}
+use Rattle.std.specs.declared.vec.Vec.{Vec}
 use Rattle.std.proofs.Math.Nat.{mod-one}
-use Rattle.std.proofs.lemmas.Bool.{and_parts, eq-eqb}
-use Rattle.std.proofs.lemmas.List.{get_or-map, length-map}
-use Rattle.std.proofs.lemmas.List.FromFn.{get_or-map-range_with_len, length-map-range_with_len}
+use Rattle.std.proofs.lemmas.Bool.{and_parts, eq-eqb, ne_eqb}
+use Rattle.std.proofs.lemmas.List.{get_or-map, length-map, map-append}
+use Rattle.std.proofs.lemmas.List.FromFn.{get_or-map-range_with_len, length-map-range_with_len, map-range_with_len_more}
 use Rattle.std.proofs.lemmas.Nat.{mod_below}
+use Rattle.mc_box.specs.declared.event.Event.TheVariants.{Shift}
 use Rattle.mc_box.specs.declared.event.Turn.{Turn}
 use Rattle.mc_desk.specs.declared.limit.TheConstants.{REQUEST_LIMIT}
 use Rattle.mc_laws.proofs.Sums.{total_plus, total_zero}
@@ -15,7 +18,7 @@ use Rattle.mc_live_settle.specs.Orders.{AreInterleaved, IsOrderOf, hand_from, ha
 use Rattle.mc_model.specs.Settles.{commands_of}
 use Rattle.mc_model.specs.Shapes.{AreAllowed, is_allowed}
 use Rattle.mc_model.specs.Worlds.{WorldState}
-use Rattle.mc_phase.specs.Asked.{AreHandsFor, IsHandFor}
+use Rattle.mc_phase.specs.Asked.{AreHandsFor, IsHandFor, hand_lists}
 use Rattle.mc_rounds.proofs.Plays.{commands_both, count_both}
 use Rattle.mc_seq.proofs.Segments.{both_there}
 use Rattle.mc_slot_laws.proofs.Sums.{total_same}
@@ -122,17 +125,44 @@ are_hands world operators batch allowed few =
 
 -- ---- dealing
 
--- one command more of a batch goes to a hand, or doesn't
 dealt_more_if : (here : Bool) (turn : Turn) (turns : List Turn) → cond here (turn ∷ turns) turns ≡ cond here (turn ∷ []) [] ++ turns
 dealt_more_if true turn turns = refl
 dealt_more_if false turn turns = refl
 
-pub dealt_both : (operators operator place : ℕ) (first second : List Turn) → hand_from operators operator place (first ++ second) ≡ hand_from operators operator place first ++ hand_from operators operator (place + length first) second
-dealt_both operators operator place [] second = ap (λ (n : ℕ). hand_from operators operator n second) (omega arith)
-dealt_both operators operator place (turn ∷ first) second =
-    let here = place % operators == operator in
-    dealt_more_if here turn (hand_from operators operator (place + 1) (first ++ second))
-    ∙ (ap (λ (l : List Turn). cond here (turn ∷ []) [] ++ l) (dealt_both operators operator (place + 1) first second)
-    ∙ (ap (λ (n : ℕ). cond here (turn ∷ []) [] ++ (hand_from operators operator (place + 1) first ++ hand_from operators operator n second)) (omega arith)
-    ∙ (sym (append_assoc (cond here (turn ∷ []) []) (hand_from operators operator (place + 1) first) (hand_from operators operator (place + length (turn ∷ first)) second))
-    ∙ ap (λ (l : List Turn). l ++ hand_from operators operator (place + length (turn ∷ first)) second) (sym (dealt_more_if here turn (hand_from operators operator (place + 1) first))))))
+-- the next command of a batch goes to a hand, or doesn't; the later ones follow
+pub dealt_next : (operators operator place : ℕ) (batch : List Turn) (d : Turn) → place < length batch
+    → hand_from operators operator place (drop place batch) ≡ cond (place % operators == operator) (get_or batch place d ∷ []) [] ++ hand_from operators operator (place + 1) (drop (place + 1) batch)
+dealt_next operators operator place batch d within =
+    let one : suc place ≡ place + 1 = omega arith in
+    let parts : drop place batch ≡ get_or batch place d ∷ drop (place + 1) batch = drop-cons batch place d within ∙ ap (λ (n : ℕ). get_or batch place d ∷ drop n batch) one in
+    ap (hand_from operators operator place) parts ∙ dealt_more_if (place % operators == operator) (get_or batch place d) (hand_from operators operator (place + 1) (drop (place + 1) batch))
+
+-- so it is one more of the hand so far, where it goes there
+pub hand_grows : (operators operator place : ℕ) (batch hand whole : List Turn) (d : Turn) → place < length batch → place % operators ≡ operator → hand ++ hand_from operators operator place (drop place batch) ≡ whole
+    → (hand ++ get_or batch place d ∷ []) ++ hand_from operators operator (place + 1) (drop (place + 1) batch) ≡ whole
+hand_grows operators operator place batch hand whole d within here so_far =
+    append_assoc hand (get_or batch place d ∷ []) (hand_from operators operator (place + 1) (drop (place + 1) batch))
+    ∙ (ap (λ (b : Bool). hand ++ (cond b (get_or batch place d ∷ []) [] ++ hand_from operators operator (place + 1) (drop (place + 1) batch))) (sym (eq-eqb (place % operators) operator here))
+    ∙ (ap (λ (l : List Turn). hand ++ l) (sym (dealt_next operators operator place batch d within)) ∙ so_far))
+
+pub hand_stays : (operators operator place : ℕ) (batch hand whole : List Turn) → place < length batch → place % operators ≢ operator → hand ++ hand_from operators operator place (drop place batch) ≡ whole
+    → hand ++ hand_from operators operator (place + 1) (drop (place + 1) batch) ≡ whole
+hand_stays operators operator place batch hand whole within other so_far =
+    let d : Turn = record { who = 0; event = Shift } in
+    ap (λ (b : Bool). hand ++ (cond b (get_or batch place d ∷ []) [] ++ hand_from operators operator (place + 1) (drop (place + 1) batch))) (sym (ne_eqb (place % operators) operator other))
+    ∙ (ap (λ (l : List Turn). hand ++ l) (sym (dealt_next operators operator place batch d within)) ∙ so_far)
+
+-- one hand more
+pub hands_grow : (operators operator : ℕ) (batch : List Turn) (old new : List (Vec Turn Global)) (hand : Vec Turn Global) → hand_lists old ≡ map (hand_of operators batch) (range_with_len 0 operator) → new ≡ old ++ hand ∷ [] → hand.items ≡ hand_of operators batch operator
+    → hand_lists new ≡ map (hand_of operators batch) (range_with_len 0 (operator + 1))
+hands_grow operators operator batch old new hand so_far added is =
+    ap hand_lists added
+    ∙ (map-append (λ (v : Vec Turn Global). v.items) old (hand ∷ [])
+    ∙ (ap (λ (lists : List (List Turn)). lists ++ hand.items ∷ []) so_far
+    ∙ (ap (λ (l : List Turn). map (hand_of operators batch) (range_with_len 0 operator) ++ l ∷ []) is ∙ sym (map-range_with_len_more (hand_of operators batch) 0 operator operator (omega arith)))))
+
+-- so there is a hand for each operator
+pub hands_many : (operators : ℕ) (batch : List Turn) (hands : List (Vec Turn Global)) → hand_lists hands ≡ hands_of operators batch → length hands ≡ operators
+hands_many operators batch hands are =
+    sym (length-map hands (λ (v : Vec Turn Global). v.items))
+    ∙ (ap (λ (lists : List (List Turn)). length lists) are ∙ length-map-range_with_len (hand_of operators batch) 0 operators)

@@ -3,6 +3,7 @@
 ghost use Rattle.std.specs.Prelude.{◌<◌, ◌≤◌, length, IfErr, IfOk};
 ghost use Rattle.mc_desk.specs.declared.limit.TheConstants.{OPERATOR_LIMIT, REQUEST_LIMIT};
 ghost use Rattle.mc_flight.specs.declared.limit.TheConstants.{SEAT_LIMIT};
+ghost use Rattle.mc_live_settle.specs.Answers.{HaveAskedAll};
 ghost use Rattle.mc_live_settle.specs.Settles.{LiveStops, SettlesLive};
 ghost use Rattle.mc_model.specs.Shapes.{AreAllowed};
 
@@ -14,7 +15,7 @@ use mc_phase::{Phase, live_phase};
 use mc_rounds::settle_rounds;
 use mc_seq::SettleFault;
 use mc_world::{Settled, World};
-use std::alloc::Global;
+use std::alloc::{AllocError, Global};
 use std::sync::Wait;
 use std::thread::Threads;
 
@@ -42,8 +43,7 @@ pub fn settle_live<R: Threads + Wait + Sync, G: Gate + Sync>(
     ensures settled { IfOk result (λ done. SettlesLive operators world batch.now done.turns.items done.world) }
     ensures stops { IfErr result (LiveStops operators world batch.now) }
 {
-    let hands = deal(alloc, operators, batch)?;
-    let phase = live_phase(rt, alloc, gate, world, &hands)?;
+    let phase = ask_all(rt, alloc, gate, operators, world, batch)?;
     let Phase {
         world,
         turns,
@@ -53,4 +53,25 @@ pub fn settle_live<R: Threads + Wait + Sync, G: Gate + Sync>(
     } = phase;
     let answer = settle_rounds(rt, alloc, gate, world, &left.turns);
     answer_behind(turns, answer)
+}
+
+// The operators ask for all commands, in one phase.
+fn ask_all<R: Threads + Wait + Sync, G: Gate + Sync>(
+    rt: &R,
+    alloc: Global,
+    gate: &G,
+    operators: u32,
+    world: World,
+    batch: &[Turn],
+) -> Result<Phase, AllocError>
+    requires operators { (0 < operators) × (operators ≤ OPERATOR_LIMIT) }
+    requires few { length world.boxes ≤ SEAT_LIMIT }
+    requires allowed { AreAllowed world batch.now }
+    requires commands { length batch.now < REQUEST_LIMIT }
+    ensures { IfOk result (λ phase.
+        HaveAskedAll operators world batch.now phase.turns.items phase.left.turns.items phase.world) }
+{
+    world.keeps();
+    let hands = deal(alloc, operators, batch)?;
+    live_phase(rt, alloc, gate, world, &hands)
 }
