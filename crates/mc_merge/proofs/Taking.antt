@@ -1,9 +1,9 @@
--- Entries that leave a log one after another.
-use Rattle.std.proofs.Common.{◌≡◌, ℕ, suc, ◌+◌, ◌≤◌, List, [], ◌∷◌, ◌++◌, length, map, append_assoc, Some, refl, ap, sym, ◌∙◌, subst, arith}
-use Rattle.std.specs.List.{slice_get}
-use Rattle.std.proofs.lemmas.List.{append-nil, map-append}
+-- Entries that leave a log one after another, or all at once.
+use Rattle.std.proofs.Common.{◌≡◌, ℕ, zero, suc, ◌+◌, ◌-◌, ◌<◌, ◌≤◌, inl, inr, List, [], ◌∷◌, ◌++◌, length, map, append_assoc, Some, refl, ap, sym, ◌∙◌, subst, arith}
+use Rattle.std.specs.List.{AllByRecursion, slice_get}
+use Rattle.std.proofs.lemmas.List.{append-nil, length-map, map-append}
 use Rattle.mc_box.specs.declared.event.Turn.{Turn}
-use Rattle.mc_merge.specs.Weaving.{IsKnown, TakesTurn, TakesUntil, turn_by}
+use Rattle.mc_merge.specs.Weaving.{Climb, IsKnown, IsWhole, IsWritten, TakesTurn, TakesUntil, made_stamps, turn_by}
 use Rattle.mc_merge.specs.declared.log.Made.{Made}
 use Rattle.mc_merge.specs.declared.log.PartLog.{PartLog}
 use Rattle.mc_merge.proofs.Climbing.{all_push}
@@ -65,3 +65,54 @@ taken_more until start now log before turns turns_2 turn first len len_2 capacit
       clock = clock ∙ so_far.clock;
       room = omega arith;
     }
+
+-- ---- all at once
+
+-- what comes up to the last comes up to its time
+up_to : (stamps : List ℕ) (i last : ℕ) → Climb stamps → length stamps ≡ suc i → slice_get stamps i ≡ Some last → AllByRecursion (λ (stamp : ℕ). stamp ≤ last) stamps
+up_to [] i last climb long at = tt
+up_to (stamp ∷ []) zero last climb long at = (let same : stamp ≡ last = cc in omega (arith, same), tt)
+up_to (stamp ∷ []) (suc i) last climb long at = absurd (omega (arith, long))
+up_to (stamp ∷ next ∷ stamps) zero last climb long at = absurd (omega (arith, long))
+up_to (stamp ∷ next ∷ stamps) (suc i) last climb long at =
+    let rest = up_to (next ∷ stamps) i last climb.1 (omega (arith, long)) at in
+    let one : stamp ≤ next = climb.0.0 in
+    let two : next ≤ last = rest.0 in
+    (omega (arith, one, two), rest)
+
+within_time : (log : List Made) (clock until last : ℕ) → clock + last ≤ until → AllByRecursion (λ (stamp : ℕ). stamp ≤ last) (made_stamps log) → AllByRecursion (λ (made : Made). clock + made.stamp ≤ until) log
+within_time [] clock until last time all = tt
+within_time (made ∷ log) clock until last time all = (let below : made.stamp ≤ last = all.0 in omega (arith, below, time), within_time log clock until last time all.1)
+
+stamp_at : (log : List Made) (i : ℕ) (made : Made) → slice_get log i ≡ Some made → slice_get (made_stamps log) i ≡ Some made.stamp
+stamp_at [] i made at = absurd (cc)
+stamp_at (first ∷ log) zero made at = let same : first ≡ made = cc in ap (λ (m : Made). Some m.stamp) same
+stamp_at (first ∷ log) (suc i) made at = stamp_at log i made at
+
+written_all : (numbers : List ℕ) (log : List Made) (turns : List Turn) (count : ℕ) → IsWritten numbers log turns → 0 < count → length turns ≡ count → turns ≡ map (turn_by numbers) log
+written_all numbers log turns count (inl none) some long = absurd (let zero_is : length turns ≡ 0 = ap (λ (l : List Turn). length l) none in omega (arith, some, long, zero_is))
+written_all numbers log turns count (inr all) some long = all
+
+pub is_whole : (until : ℕ) (log : PartLog) (last : Made) (count : ℕ) → Climb (made_stamps log.made.items) → IsWritten log.numbers.items log.made.items log.turns.items → 0 < count → count ≡ length log.made.items
+    → length log.turns.items ≡ count → Some last ≡ slice_get log.made.items (count - 1) → log.clock + last.stamp ≤ until → IsWhole until log
+is_whole until log last count climb written some count_is long at time = record {
+  turns_are = written_all log.numbers.items log.made.items log.turns.items count written some long;
+  within = within_time log.made.items log.clock until last.stamp time
+      (up_to (made_stamps log.made.items) (count - 1) last.stamp climb
+      (let stamps : length (made_stamps log.made.items) ≡ length log.made.items = length-map log.made.items (λ (made : Made). made.stamp) in omega (arith, stamps, count_is, some))
+      (stamp_at log.made.items (count - 1) last (sym at)));
+}
+
+pub whole_taken : (until : ℕ) (log log_2 : PartLog) (before turns : List Turn) → IsWhole until log → log_2.made.items ≡ [] → turns ≡ before ++ log.turns.items → TakesUntil until log log_2 before turns
+whole_taken until log log_2 before turns whole empty added = record {
+  items = log.made.items;
+  taken = sym (append-nil log.made.items) ∙ ap (λ (l : List Made). log.made.items ++ l) (sym empty);
+  within = whole.within;
+  added = added ∙ ap (λ (l : List Turn). before ++ l) whole.turns_are;
+}
+
+-- as many turns as entries
+pub whole_long : (until : ℕ) (log : PartLog) (len capacity : ℕ) → IsWhole until log → len + length log.made.items ≤ capacity → len + length log.turns.items ≤ capacity
+whole_long until log len capacity whole room =
+    let long : length log.turns.items ≡ length log.made.items = ap (λ (l : List Turn). length l) whole.turns_are ∙ length-map log.made.items (turn_by log.numbers.items) in
+    omega (arith, long, room)

@@ -8,7 +8,7 @@ use Rattle.std.proofs.lemmas.List.{append-nil, get_or-map, get_or-set_other, get
 use Rattle.std.proofs.lemmas.List.Sums.{sum_by-cons, sum_by-set}
 use Rattle.std.proofs.Math.Seq.{map-set_same}
 use Rattle.mc_box.specs.declared.event.Turn.{Turn}
-use Rattle.mc_merge.specs.Weaving.{AddsMerged, AreClimbing, AreKnown, Climb, HasTime, IsKnown, IsNext, IsNextLog, IsPast, IsTimeFrom, TakesUntil, clock_at, clocks_of, entry_count, log_at, logs_of, made_stamps, numbers_at, numbers_of, of_part, times_by, turn_by, turn_in}
+use Rattle.mc_merge.specs.Weaving.{AddsMerged, AreClimbing, AreKnown, AreWritten, Climb, HasTime, IsKnown, IsNext, IsNextLog, IsPast, IsTimeFrom, IsWritten, TakesUntil, clock_at, clocks_of, entry_count, log_at, logs_of, made_stamps, numbers_at, numbers_of, of_part, times_by, turn_by, turn_in, turns_at, turns_of}
 use Rattle.mc_merge.specs.declared.log.Made.{Made}
 use Rattle.mc_merge.specs.declared.log.PartLog.{PartLog}
 use Rattle.mc_merge.specs.declared.merged.NextLog.{NextLog}
@@ -194,14 +194,16 @@ pub record IsUnderWay (start now : List PartLog) (before turns : List Turn) (len
   pub numbers : numbers_of now ≡ numbers_of start
   pub clocks : clocks_of now ≡ clocks_of start
   pub known : AreKnown now
+  pub written : AreWritten now
   pub room : len + entry_count (logs_of now) ≤ capacity
 
-pub under_way : (start : List PartLog) (before : List Turn) (len capacity : ℕ) → AreKnown start → AreClimbing (logs_of start) → len + entry_count (logs_of start) ≤ capacity → IsUnderWay start start before before len capacity
-under_way start before len capacity known climb room = record {
+pub under_way : (start : List PartLog) (before : List Turn) (len capacity : ℕ) → AreKnown start → AreClimbing (logs_of start) → AreWritten start → len + entry_count (logs_of start) ≤ capacity → IsUnderWay start start before before len capacity
+under_way start before len capacity known climb written room = record {
   merging = merging_init (clock_at (clocks_of start)) (logs_of start) (numbers_of start) before climb;
   numbers = refl;
   clocks = refl;
   known = known;
+  written = written;
   room = room;
 }
 
@@ -216,6 +218,7 @@ pub record Comes (logs : List PartLog) (next : NextLog) (log : PartLog) : Type 0
   pub is : log_at (logs_of logs) next.part ≡ log.made.items
   pub numbers : numbers_at (numbers_of logs) next.part ≡ log.numbers.items
   pub clock : clock_at (clocks_of logs) next.part ≡ log.clock
+  pub turns : turns_at (turns_of logs) next.part ≡ log.turns.items
   pub front : HasTime next.time log.clock log.made.items
   pub least : next.time ≤ next.until
   pub others : (other : ℕ) → other ≢ next.part → IsTimeFrom next.until (clock_at (clocks_of logs) other) (log_at (logs_of logs) other)
@@ -229,6 +232,7 @@ comes logs next log is_next is =
       is = here;
       numbers = get_or-map (λ (l : PartLog). l.numbers.items) logs next.part log [] is_next.inside ∙ ap (λ (l : PartLog). l.numbers.items) (sym is);
       clock = begins;
+      turns = get_or-map (λ (l : PartLog). l.turns.items) logs next.part log [] is_next.inside ∙ ap (λ (l : PartLog). l.turns.items) (sym is);
       front = subst (λ (l : List Made). HasTime next.time log.clock l) here (subst (λ (n : ℕ). HasTime next.time n (log_at (logs_of logs) next.part)) begins is_next.front);
       least = is_next.least;
       others = λ other apart. elim (cases_lt other (length logs)) [
@@ -248,6 +252,15 @@ numbers_after logs part was log is same =
 
 clocks_after : (logs : List PartLog) (part : ℕ) (was log : PartLog) → was ≡ get_or logs part was → log.clock ≡ was.clock → clocks_of (set logs part log) ≡ clocks_of logs
 clocks_after logs part was log is same = map-set_same (λ (l : PartLog). l.clock) logs part log was (same ∙ ap (λ (l : PartLog). l.clock) is)
+
+-- what is written down in its place
+written_after : (logs : List PartLog) (part : ℕ) (log : PartLog) → AreWritten logs → log.turns.items ≡ [] → (other : ℕ)
+    → IsWritten (numbers_at (numbers_of (set logs part log)) other) (log_at (logs_of (set logs part log)) other) (turns_at (turns_of (set logs part log)) other)
+written_after [] part log written none other = written other
+written_after (first ∷ logs) zero log written none zero = inl none
+written_after (first ∷ logs) zero log written none (suc other) = written (suc other)
+written_after (first ∷ logs) (suc part) log written none zero = written zero
+written_after (first ∷ logs) (suc part) log written none (suc other) = written_after logs part log (λ (n : ℕ). written (suc n)) none other
 
 -- ---- it goes on
 
@@ -294,10 +307,10 @@ longer turns turns_2 numbers items added =
     ap (λ (l : List Turn). length l) added ∙ (length-append turns (map (turn_by numbers) items) ∙ ap (λ (n : ℕ). length turns + n) (length-map items (turn_by numbers)))
 
 pub goes_on : (start now : List PartLog) (before turns turns_2 : List Turn) (len len_2 capacity capacity_2 : ℕ) (next : NextLog) (log log_2 : PartLog)
-    → len ≡ length turns → len_2 ≡ length turns_2 → capacity_2 ≡ capacity → IsUnderWay start now before turns len capacity → Comes now next log → log ≡ get_or now next.part log
-    → TakesUntil next.until log log_2 turns turns_2 → log_2.numbers ≡ log.numbers → log_2.clock ≡ log.clock
+    → len ≡ length turns → len_2 ≡ length turns_2 → capacity ≤ capacity_2 → IsUnderWay start now before turns len capacity → Comes now next log → log ≡ get_or now next.part log
+    → TakesUntil next.until log log_2 turns turns_2 → log_2.numbers ≡ log.numbers → log_2.clock ≡ log.clock → log_2.turns.items ≡ []
     → IsUnderWay start (set now next.part log_2) before turns_2 len_2 capacity_2
-goes_on start now before turns turns_2 len len_2 capacity capacity_2 next log log_2 len_is len_2_is same_room way come is takes numbers clock =
+goes_on start now before turns turns_2 len len_2 capacity capacity_2 next log log_2 len_is len_2_is same_room way come is takes numbers clock none =
     let clocks : ℕ → ℕ = clock_at (clocks_of start) in
     let inside : next.part < length (logs_of now) = subst (λ (n : ℕ). next.part < n) (sym (long_logs now)) come.inside in
     let was : log_at (logs_of now) next.part ≡ takes.items ++ log_2.made.items = come.is ∙ takes.taken in
@@ -322,6 +335,7 @@ goes_on start now before turns turns_2 len len_2 capacity capacity_2 next log lo
       known = λ other. subst (λ (l : List (List ℕ)). IsKnown (numbers_at l other) (log_at (logs_of (set now next.part log_2)) other)) (sym same)
           (subst (λ (l : List (List Made)). IsKnown (numbers_at (numbers_of now) other) (log_at l other)) (sym after)
           (known_then now next.part takes.items log_2.made.items inside was way.known other));
+      written = written_after now next.part log_2 way.written none;
       room = omega arith;
     }
 
@@ -352,12 +366,12 @@ smaller now turns turns_2 next read log_2 next_is is takes clock past =
     (clock ∙ ap (λ (l : PartLog). l.clock) (sym is)) past
 
 pub goes_on_read : (start now : List PartLog) (before turns turns_2 : List Turn) (len len_2 capacity capacity_2 : ℕ) (next : NextLog) (read log_2 : PartLog)
-    → len ≡ length turns → len_2 ≡ length turns_2 → capacity_2 ≡ capacity → IsUnderWay start now before turns len capacity → IsNextLog (clocks_of now) (logs_of now) (length now) next → read ≡ get_or now next.part read
-    → TakesUntil next.until (get_or now next.part read) log_2 turns turns_2 → log_2.numbers ≡ (get_or now next.part read).numbers → log_2.clock ≡ (get_or now next.part read).clock
+    → len ≡ length turns → len_2 ≡ length turns_2 → capacity ≤ capacity_2 → IsUnderWay start now before turns len capacity → IsNextLog (clocks_of now) (logs_of now) (length now) next → read ≡ get_or now next.part read
+    → TakesUntil next.until (get_or now next.part read) log_2 turns turns_2 → log_2.numbers ≡ (get_or now next.part read).numbers → log_2.clock ≡ (get_or now next.part read).clock → log_2.turns.items ≡ []
     → IsUnderWay start (set now next.part log_2) before turns_2 len_2 capacity_2
-goes_on_read start now before turns turns_2 len len_2 capacity capacity_2 next read log_2 len_is len_2_is same_room way next_is is takes numbers clock =
+goes_on_read start now before turns turns_2 len len_2 capacity capacity_2 next read log_2 len_is len_2_is same_room way next_is is takes numbers clock none =
     goes_on start now before turns turns_2 len len_2 capacity capacity_2 next read log_2 len_is len_2_is same_room way (comes now next read next_is is) is
-    (subst (λ (l : PartLog). TakesUntil next.until l log_2 turns turns_2) (sym is) takes) (numbers ∙ ap (λ (l : PartLog). l.numbers) (sym is)) (clock ∙ ap (λ (l : PartLog). l.clock) (sym is))
+    (subst (λ (l : PartLog). TakesUntil next.until l log_2 turns turns_2) (sym is) takes) (numbers ∙ ap (λ (l : PartLog). l.numbers) (sym is)) (clock ∙ ap (λ (l : PartLog). l.clock) (sym is)) none
 
 -- ---- what a call asks for
 
@@ -389,6 +403,24 @@ known_read now next read known next_is is = subst (λ (l : PartLog). IsKnown l.n
 pub room_read : (now : List PartLog) (next : NextLog) (read : PartLog) (len capacity : ℕ) → IsNextLog (clocks_of now) (logs_of now) (length now) next → read ≡ get_or now next.part read
     → len + entry_count (logs_of now) ≤ capacity → len + length (get_or now next.part read).made.items ≤ capacity
 room_read now next read len capacity next_is is room = subst (λ (l : PartLog). len + length l.made.items ≤ capacity) is (room_for now next read len capacity (comes now next read next_is is) room)
+
+climb_log : (now : List PartLog) (next : NextLog) (log : PartLog) → AreClimbing (logs_of now) → Comes now next log → Climb (made_stamps log.made.items)
+climb_log now next log climb come = subst (λ (l : List Made). Climb (made_stamps l)) come.is (climb next.part)
+
+pub climb_read : (now : List PartLog) (next : NextLog) (read : PartLog) → AreClimbing (logs_of now) → IsNextLog (clocks_of now) (logs_of now) (length now) next → read ≡ get_or now next.part read
+    → Climb (made_stamps (get_or now next.part read).made.items)
+climb_read now next read climb next_is is = subst (λ (l : PartLog). Climb (made_stamps l.made.items)) is (climb_log now next read climb (comes now next read next_is is))
+
+written_log : (now : List PartLog) (next : NextLog) (log : PartLog) → AreWritten now → Comes now next log → IsWritten log.numbers.items log.made.items log.turns.items
+written_log now next log written come =
+    subst (λ (l : List Turn). IsWritten log.numbers.items log.made.items l) come.turns
+    (subst (λ (l : List Made). IsWritten log.numbers.items l (turns_at (turns_of now) next.part)) come.is
+    (subst (λ (l : List ℕ). IsWritten l (log_at (logs_of now) next.part) (turns_at (turns_of now) next.part)) come.numbers (written next.part)))
+
+pub written_read : (now : List PartLog) (next : NextLog) (read : PartLog) → AreWritten now → IsNextLog (clocks_of now) (logs_of now) (length now) next → read ≡ get_or now next.part read
+    → IsWritten (get_or now next.part read).numbers.items (get_or now next.part read).made.items (get_or now next.part read).turns.items
+written_read now next read written next_is is =
+    subst (λ (l : PartLog). IsWritten l.numbers.items l.made.items l.turns.items) is (written_log now next read written (comes now next read next_is is))
 
 -- ---- the end
 

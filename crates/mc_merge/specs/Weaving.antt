@@ -1,5 +1,5 @@
 -- Lists side by side as one list, in the order of the times at which their entries were made.
-use Rattle.std.specs.Prelude.{◌≡◌, ◌≢◌, ◌==◌, ℕ, ◌+◌, ◌<◌, ◌≤◌, nat_le, min, if◌then◌else◌, List, [], ◌∷◌, ◌++◌, length, map, slice_index_or, Option, Some, None}
+use Rattle.std.specs.Prelude.{◌≡◌, ◌≢◌, ◌==◌, ◌⊎◌, ℕ, ◌+◌, ◌<◌, ◌≤◌, nat_le, min, if◌then◌else◌, List, [], ◌∷◌, ◌++◌, length, map, slice_index_or, Option, Some, None}
 use Rattle.std.specs.List.{AllByRecursion, sum_by}
 use Rattle.mc_box.specs.BoxEvents.{turn_of}
 use Rattle.mc_box.specs.declared.event.Turn.{Turn}
@@ -32,6 +32,10 @@ clocks_of logs = map (λ (log : PartLog). log.clock) logs
 abbrev pub numbers_of : List PartLog → List (List ℕ)
 numbers_of logs = map (λ (log : PartLog). log.numbers.items) logs
 
+-- what is written down of their turns
+abbrev pub turns_of : List PartLog → List (List Turn)
+turns_of logs = map (λ (log : PartLog). log.turns.items) logs
+
 abbrev pub log_at : List (List Made) → ℕ → List Made
 log_at logs part = slice_index_or logs part []
 
@@ -40,6 +44,9 @@ clock_at clocks part = slice_index_or clocks part 0
 
 abbrev pub numbers_at : List (List ℕ) → ℕ → List ℕ
 numbers_at numbers part = slice_index_or numbers part []
+
+abbrev pub turns_at : List (List Turn) → ℕ → List Turn
+turns_at turns part = slice_index_or turns part []
 
 abbrev pub made_stamps : List Made → List ℕ
 made_stamps log = map (λ (made : Made). made.stamp) log
@@ -75,6 +82,14 @@ turn_by numbers made = turn_of (slice_index_or numbers made.who 0) made.event
 
 abbrev pub turn_in : List (List ℕ) → ℕ × Made → Turn
 turn_in numbers item = turn_by (numbers_at numbers item.0) item.1
+
+-- nothing is written down of a log, or the turns of all its entries
+abbrev pub IsWritten : List ℕ → List Made → List Turn → Type 0
+IsWritten numbers log turns = (turns ≡ []) ⊎ (turns ≡ map (turn_by numbers) log)
+
+abbrev pub AreWritten : List PartLog → Type 0
+AreWritten logs = (part : ℕ)
+    → IsWritten (numbers_at (numbers_of logs) part) (log_at (logs_of logs) part) (turns_at (turns_of logs) part)
 
 -- such turns come after those before, in the order of their times
 pub record AddsMerged (logs : List PartLog) (old new : List Turn) : Type 0 where
@@ -117,6 +132,11 @@ abbrev pub sooner : Option NextLog → ℕ → ℕ → Option Made → Option Ne
 sooner best part clock None = best
 sooner None part clock (Some made) = Some (record { part = part; time = clock + made.stamp; until = LAST_TIME })
 sooner (Some next) part clock (Some made) = Some (sooner_of_two next part (clock + made.stamp))
+
+-- the turns of all its entries are written down, and none has a time after this one
+pub record IsWhole (until : ℕ) (log : PartLog) : Type 0 where
+  pub turns_are : log.turns.items ≡ map (turn_by log.numbers.items) log.made.items
+  pub within : AllByRecursion (λ (made : Made). log.clock + made.stamp ≤ until) log.made.items
 
 -- its oldest entry leaves it
 pub record TakesTurn (old new : PartLog) (turn : Turn) : Type 0 where

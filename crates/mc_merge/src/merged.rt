@@ -1,11 +1,13 @@
 // The turns of all parts, by the times at which they were made.
 
-ghost use Rattle.std.specs.Prelude.{◌≡◌, ℕ, ◌+◌, ◌^◌, ◌<◌, ◌≤◌, [], ◌++◌, length, vec_capacity, vec_len, IfSome, OnErr, OnOk};
-ghost use Rattle.mc_merge.specs.Weaving.{AddsMerged, AreClimbing, AreKnown, IsKnown, IsNext, IsPast, TakesTurn, TakesUntil};
-ghost use Rattle.mc_merge.specs.Weaving.{clocks_of, entry_count, log_at, logs_of, numbers_of, sooner, sooner_of_two};
+ghost use Rattle.std.specs.Prelude.{◌≡◌, ℕ, ◌+◌, ◌^◌, ◌<◌, ◌≤◌, [], ◌++◌, length, vec_capacity, vec_len, IfSome, IsTrue, OnErr, OnOk};
+ghost use Rattle.mc_merge.specs.Weaving.{AddsMerged, AreClimbing, AreKnown, AreWritten, Climb, IsKnown, IsNext, IsPast, IsWhole};
+ghost use Rattle.mc_merge.specs.Weaving.{IsWritten, TakesTurn, TakesUntil, clocks_of, entry_count, log_at, logs_of, made_stamps};
+ghost use Rattle.mc_merge.specs.Weaving.{numbers_of, sooner, sooner_of_two};
 
 use crate::log::{Made, PartLog};
 use mc_box::Turn;
+use mc_lane::Lane;
 use std::alloc::AllocError;
 
 /// No entry is made as late as this.
@@ -20,13 +22,15 @@ pub struct NextLog {
 }
 
 /// Takes all entries out of these logs, and adds their turns to those before: those of a log in their own order, and
-/// none after one with a greater time. Of logs whose times don't meet each goes over as a whole.
+/// none after one with a greater time. Of logs whose times don't meet each goes over as a whole, and where its turns are
+/// written down, these do.
 ///
 /// It fails only for want of memory, and changes nothing then.
 pub fn merge(logs: &mut [PartLog], turns: &mut Vec<Turn>) -> Result<(), AllocError>
     requires few { entry_count (logs_of logs.old) < 2 ^ 32 }
     requires known { AreKnown logs.old }
     requires climb { AreClimbing (logs_of logs.old) }
+    requires written { AreWritten logs.old }
     ensures merged { OnOk result (AddsMerged logs.old turns.old.items turns.new.items) }
     ensures empty { OnOk result ((part : ℕ) → log_at (logs_of logs.new) part ≡ []) }
     ensures numbers { numbers_of logs.new ≡ numbers_of logs.old }
@@ -56,13 +60,14 @@ fn merge_all(logs: &mut [PartLog], turns: &mut Vec<Turn>)
     requires room { vec_len turns.old + entry_count (logs_of logs.old) ≤ vec_capacity turns.old }
     requires known { AreKnown logs.old }
     requires climb { AreClimbing (logs_of logs.old) }
+    requires written { AreWritten logs.old }
     ensures merged { AddsMerged logs.old turns.old.items turns.new.items }
     ensures empty { (part : ℕ) → log_at (logs_of logs.new) part ≡ [] }
     ensures numbers { numbers_of logs.new ≡ numbers_of logs.old }
     ensures clocks { clocks_of logs.new ≡ clocks_of logs.old }
 {
     while let Some(next) = next_log(logs) {
-        take_until(next.until, &mut logs[next.part], turns);
+        take_log(next.until, &mut logs[next.part], turns);
     }
 }
 
@@ -111,6 +116,75 @@ fn sooner_of_two(next: NextLog, part: usize, time: u64) -> NextLog
             until: next.time,
         }
     }
+}
+
+// Takes the entries of a log up to a time: where that is all of them, and their turns are written down, at once. There
+// is room for them among the turns.
+fn take_log(until: u64, log: &mut PartLog, turns: &mut Vec<Turn>)
+    requires room { vec_len turns.old + length log.old.made.items ≤ vec_capacity turns.old }
+    requires known { IsKnown log.old.numbers.items log.old.made.items }
+    requires climb { Climb (made_stamps log.old.made.items) }
+    requires written { IsWritten log.old.numbers.items log.old.made.items log.old.turns.items }
+    ensures takes { TakesUntil until log.old log.new turns.old.items turns.new.items }
+    ensures stops { IsPast until log.new.clock log.new.made.items }
+    ensures written { log.new.turns.items ≡ [] }
+    ensures numbers { log.new.numbers ≡ log.old.numbers }
+    ensures clock { log.new.clock ≡ log.old.clock }
+    ensures capacity { vec_capacity turns.old ≤ vec_capacity turns.new }
+{
+    if is_whole(until, log) {
+        take_whole(log, turns);
+    } else {
+        take_until(until, log, turns);
+        log.turns.clear();
+    }
+}
+
+// Whether the turns of a log are written down, and its last entry comes up to a time.
+fn is_whole(until: u64, log: &PartLog) -> bool
+    requires climb { Climb (made_stamps log.now.made.items) }
+    requires written { IsWritten log.now.numbers.items log.now.made.items log.now.turns.items }
+    ensures { IsTrue result → IsWhole until log.now }
+{
+    let count = log.made.len();
+    if count == 0 || log.turns.len() != count {
+        return false;
+    }
+    log.clock + log.made.get(count - 1).stamp as u64 <= until
+}
+
+// Takes all entries out of a log, whose turns are written down. There is room for them.
+fn take_whole(log: &mut PartLog, turns: &mut Vec<Turn>)
+    requires room { vec_len turns.old + length log.old.turns.items ≤ vec_capacity turns.old }
+    ensures added { turns.new.items ≡ turns.old.items ++ log.old.turns.items }
+    ensures empty { log.new.made.items ≡ [] }
+    ensures written { log.new.turns.items ≡ [] }
+    ensures numbers { log.new.numbers ≡ log.old.numbers }
+    ensures clock { log.new.clock ≡ log.old.clock }
+    ensures capacity { vec_capacity turns.old ≤ vec_capacity turns.new }
+{
+    append_reserved(turns, &mut log.turns);
+    clear(&mut log.made);
+}
+
+// Moves turns to the end of others, where there is room for them.
+fn append_reserved(turns: &mut Vec<Turn>, more: &mut Vec<Turn>)
+    requires { vec_len turns.old + vec_len more.old ≤ vec_capacity turns.old }
+    ensures added { turns.new.items ≡ turns.old.items ++ more.old.items }
+    ensures moved { more.new.items ≡ [] }
+    ensures capacity { vec_capacity turns.old ≤ vec_capacity turns.new }
+{
+    match turns.append(more) {
+        Ok(()) => {}
+        Err(_) => unreachable!(),
+    }
+}
+
+// Takes all entries out.
+fn clear(made: &mut Lane<Made>)
+    ensures { made.new.items ≡ [] }
+{
+    while let Some(_made) = made.pop() {}
 }
 
 // Takes entries out of a log up to a time. There is room for them among the turns.
