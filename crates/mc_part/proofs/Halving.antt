@@ -4,12 +4,12 @@ use Rattle.std.proofs.lemmas.Bool.{cases_lt}
 use Rattle.std.proofs.lemmas.Option.{slice_get_within}
 use Rattle.mc_part.specs.Phases.{EachChanged, EachOf}
 
-get_before : {X : Type 0} (xs ys : List X) (i : ℕ) → i < length xs → slice_get (xs ++ ys) i ≡ slice_get xs i
+pub get_before : {X : Type 0} (xs ys : List X) (i : ℕ) → i < length xs → slice_get (xs ++ ys) i ≡ slice_get xs i
 get_before [] ys i within = absurd (omega arith)
 get_before (x ∷ xs) ys zero within = refl
 get_before (x ∷ xs) ys (suc i) within = get_before xs ys i (omega arith)
 
-get_behind : {X : Type 0} (xs ys : List X) (i j : ℕ) → i ≡ length xs + j → slice_get (xs ++ ys) i ≡ slice_get ys j
+pub get_behind : {X : Type 0} (xs ys : List X) (i j : ℕ) → i ≡ length xs + j → slice_get (xs ++ ys) i ≡ slice_get ys j
 get_behind [] ys i j at = let same : i ≡ j = omega arith in ap (slice_get ys) same
 get_behind (x ∷ xs) ys zero j at = absurd (omega arith)
 get_behind (x ∷ xs) ys (suc i) j at = get_behind xs ys i j (omega arith)

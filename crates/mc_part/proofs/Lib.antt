@@ -27,3 +27,4 @@ pub mod Tunnels
 pub mod TunnelsOut
 pub mod Turned
 pub mod Uses
+pub mod Written

@@ -6,6 +6,9 @@ use Rattle.mc_part.specs.Running.{AreCalmFrom, EndsAs, HasRoom, Progresses, Runs
 use Rattle.mc_part.specs.declared.stop.Ended.{Ended}
 use Rattle.mc_part.specs.declared.stop.PartStop.{PartStop}
 use Rattle.mc_part.specs.declared.part_run.PartRun.{PartRun}
+use Rattle.mc_merge.specs.Weaving.{IsWritten}
+use Rattle.mc_merge.specs.declared.log.Made.{Made}
+use Rattle.mc_merge.specs.declared.log.PartLog.{PartLog}
 
 -- each of these
 abbrev pub EachOf : {A : Type 0} → (A → Type 0) → List A → Type 0
@@ -54,3 +57,14 @@ pub record HasGone (retries : Bool) (budget : ℕ) (a b : PartRun) : Type 0 wher
 
 abbrev pub HaveGone : Bool → ℕ → List PartRun → List PartRun → Type 0
 HaveGone retries budget old new = EachChanged (HasGone retries budget) old new
+
+-- in a log the turns of these entries are written down, or none
+pub record WritesTurns (made : List Made) (a b : PartLog) : Type 0 where
+  pub written : IsWritten b.numbers.items made b.turns.items
+  pub kept : b ≡ record a { turns = b.turns }
+
+-- in the log of each part its turns are, or none
+pub record HaveWritten (runs : List PartRun) (old new : List PartLog) : Type 0 where
+  pub count : length new ≡ length old
+  pub each : (i : ℕ) (run : PartRun) (a b : PartLog) → slice_get runs i ≡ Some run → slice_get old i ≡ Some a
+      → slice_get new i ≡ Some b → WritesTurns run.part.log.items a b

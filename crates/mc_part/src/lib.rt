@@ -19,6 +19,7 @@ mod running;
 mod sharing;
 mod steps;
 mod stop;
+mod writing;
 
 pub use carrying::carry;
 pub use channels::channels_in;

@@ -2,13 +2,15 @@
 
 ghost use Rattle.std.specs.Prelude.{◌≡◌, ◌≤◌, ◌&&◌, is_ok};
 ghost use Rattle.mc_part.specs.declared.limit.TheConstants.{STAMP_LIMIT};
-ghost use Rattle.mc_part.specs.Phases.{HasGone, IsReady};
+ghost use Rattle.mc_part.specs.Phases.{HasGone, IsReady, WritesTurns};
 
 use crate::knowing::{Known, learn};
 use crate::part::Part;
 use crate::running::run_part;
 use crate::stop::{Ended, PartStop};
+use crate::writing::write_turns;
 use mc_io::Gate;
+use mc_merge::PartLog;
 use std::sync::atomic::AtomicU64;
 
 /// A part, whether it has something to do or may get it, how its run ended, and what is known of it.
@@ -20,8 +22,27 @@ pub struct PartRun {
     pub known: Known,
 }
 
-/// Runs a part, if it has something to do.
-pub(crate) fn run_one<G: Gate>(
+/// Runs a part, if it has something to do, and writes its turns down in its log.
+pub(crate) fn play_one<G: Gate>(
+    gate: &G,
+    retries: bool,
+    every: bool,
+    budget: u32,
+    busy: &AtomicU64,
+    run: &mut PartRun,
+    log: &mut PartLog,
+)
+    requires budget { budget ≤ STAMP_LIMIT }
+    requires ready { IsReady retries every budget run.old }
+    ensures gone { HasGone retries budget run.old run.new }
+    ensures written { WritesTurns run.new.part.log.items log.old log.new }
+{
+    run_one(gate, retries, every, budget, busy, run);
+    write_turns(&run.part, log);
+}
+
+// Runs a part, if it has something to do.
+fn run_one<G: Gate>(
     gate: &G,
     retries: bool,
     every: bool,

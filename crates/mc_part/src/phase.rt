@@ -1,12 +1,13 @@
-// All parts, each on a thread where it has something to do.
+// All parts, each on a thread where it has something to do; there it also writes its turns down.
 
 ghost use Rattle.std.specs.Prelude.{◌≡◌, ◌≤◌, length};
 ghost use Rattle.std.specs.Thread.{IsSync};
 ghost use Rattle.mc_part.specs.declared.limit.TheConstants.{STAMP_LIMIT};
-ghost use Rattle.mc_part.specs.Phases.{AreReady, HaveGone};
+ghost use Rattle.mc_part.specs.Phases.{AreReady, HaveGone, HaveWritten};
 
-use crate::part_run::{PartRun, any_active, run_one};
+use crate::part_run::{PartRun, any_active, play_one};
 use mc_io::Gate;
+use mc_merge::PartLog;
 use std::sync::atomic::AtomicU64;
 use std::thread::{Threads, join_mut};
 
@@ -18,6 +19,8 @@ use std::thread::{Threads, join_mut};
 /// have something to do. That ends them sooner, and no clause rests on it.
 ///
 /// The gate is told of each turn by the thread that makes it, as `run_part` says.
+///
+/// Each part has a log of its own, in which its thread writes its turns down by the network's numbers.
 pub fn run_parts<R: Threads + Sync, G: Gate + Sync>(
     rt: &R,
     gate: &G,
@@ -27,54 +30,83 @@ pub fn run_parts<R: Threads + Sync, G: Gate + Sync>(
     size: usize,
     busy: &AtomicU64,
     runs: &mut [PartRun],
+    logs: &mut [PartLog],
 )
     requires size { size ≡ length runs.old }
+    requires logs { size ≡ length logs.old }
     requires budget { budget ≤ STAMP_LIMIT }
     requires ready { AreReady retries every budget runs.old }
-    ensures { HaveGone retries budget runs.old runs.new }
+    ensures gone { HaveGone retries budget runs.old runs.new }
+    ensures written { HaveWritten runs.new logs.old logs.new }
 {
     if size < 2 {
-        run_few(gate, retries, every, budget, busy, runs);
+        play_few(gate, retries, every, budget, busy, runs, logs);
         return;
     }
     let first = size / 2;
     let second = size - first;
     let (front, back) = runs.split_at_mut(first);
+    let (front_logs, back_logs) = logs.split_at_mut(first);
     if !any_active(front) || !any_active(back) {
-        run_parts(rt, gate, retries, every, budget, first, busy, front);
-        run_parts(rt, gate, retries, every, budget, second, busy, back);
+        run_parts(
+            rt, gate, retries, every, budget, first, busy, front, front_logs,
+        );
+        run_parts(
+            rt, gate, retries, every, budget, second, busy, back, back_logs,
+        );
         return;
     }
     join_mut(
         rt,
         &mut ||
-            requires { IsSync R.row × IsSync G.row × (first ≡ length front.now) × (budget ≤ STAMP_LIMIT)
-                × AreReady retries every budget front.now }
-            ensures { HaveGone retries budget front.entry.now front.exit.now }
-        { run_parts(rt, gate, retries, every, budget, first, busy, front) },
+            requires { IsSync R.row × IsSync G.row × (first ≡ length front.now) × (first ≡ length front_logs.now)
+                × (budget ≤ STAMP_LIMIT) × AreReady retries every budget front.now }
+            ensures { HaveGone retries budget front.entry.now front.exit.now
+                × HaveWritten front.exit.now front_logs.entry.now front_logs.exit.now }
+        {
+            run_parts(
+                rt, gate, retries, every, budget, first, busy, front, front_logs,
+            )
+        },
         &mut ||
-            requires { IsSync R.row × IsSync G.row × (second ≡ length back.now) × (budget ≤ STAMP_LIMIT)
-                × AreReady retries every budget back.now }
-            ensures { HaveGone retries budget back.entry.now back.exit.now }
-        { run_parts(rt, gate, retries, every, budget, second, busy, back) },
+            requires { IsSync R.row × IsSync G.row × (second ≡ length back.now) × (second ≡ length back_logs.now)
+                × (budget ≤ STAMP_LIMIT) × AreReady retries every budget back.now }
+            ensures { HaveGone retries budget back.entry.now back.exit.now
+                × HaveWritten back.exit.now back_logs.entry.now back_logs.exit.now }
+        {
+            run_parts(
+                rt, gate, retries, every, budget, second, busy, back, back_logs,
+            )
+        },
     );
 }
 
 // One part, or none.
-fn run_few<G: Gate>(
+fn play_few<G: Gate>(
     gate: &G,
     retries: bool,
     every: bool,
     budget: u32,
     busy: &AtomicU64,
     runs: &mut [PartRun],
+    logs: &mut [PartLog],
 )
     requires few { length runs.old ≤ 1 }
+    requires logs { length runs.old ≡ length logs.old }
     requires budget { budget ≤ STAMP_LIMIT }
     requires ready { AreReady retries every budget runs.old }
-    ensures { HaveGone retries budget runs.old runs.new }
+    ensures gone { HaveGone retries budget runs.old runs.new }
+    ensures written { HaveWritten runs.new logs.old logs.new }
 {
     if !runs.is_empty() {
-        run_one(gate, retries, every, budget, busy, &mut runs[0]);
+        play_one(
+            gate,
+            retries,
+            every,
+            budget,
+            busy,
+            &mut runs[0],
+            &mut logs[0],
+        );
     }
 }
