@@ -46,3 +46,4 @@ mod Ways
 pub mod WholeWorlds
 pub mod Wires
 mod Working
+mod Written

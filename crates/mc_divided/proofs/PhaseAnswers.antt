@@ -18,7 +18,7 @@ use Rattle.mc_part.specs.declared.limit.TheConstants.{STAMP_LIMIT}
 use Rattle.mc_part.specs.declared.part.Part.{Part}
 use Rattle.mc_part.specs.declared.part_run.PartRun.{PartRun}
 use Rattle.mc_divided.specs.Networks.{IsDividedNetwork, turn_budget}
-use Rattle.mc_divided.specs.Phasing.{AreChosen, CarriesOver, HasMemory, IsCarryable, logs_in}
+use Rattle.mc_divided.specs.Phasing.{AreChosen, AreOf, CarriesOver, HasMemory, IsCarryable, logs_in}
 use Rattle.mc_divided.specs.declared.network.Crossing.{Crossing}
 use Rattle.mc_divided.specs.declared.network.DividedNetwork.{DividedNetwork}
 use Rattle.mc_divided.proofs.Closed.{count_in}
@@ -51,6 +51,14 @@ over_of crossings crossings_2 runs runs_2 carried one two over =
 pub logs_count : (n : DividedNetwork) → IsDividedNetwork n → length n.logs.items ≡ length n.runs.items
 logs_count n divided =
     sym (length-map n.logs.items (λ (log : PartLog). log.numbers.items)) ∙ (ap (λ (l : List (List ℕ)). length l) divided.logs ∙ length-map-range_with_len (members n.assigned.items) 0 (length n.runs.items))
+
+pub logs_count_as : (calm : Bool) (crossings : List Crossing) (every : Bool) (runs chosen : List PartRun) (logs : List PartLog) → AreOf calm crossings runs logs → AreChosen every runs chosen → length logs ≡ length chosen
+logs_count_as calm crossings every runs chosen logs o chose =
+    ap (λ (l : List PartLog). length l) (sym o.logs_are) ∙ (logs_count o.network o.divided ∙ (ap (λ (l : List PartRun). length l) o.runs_are ∙ sym chose.count))
+
+pub logs_even : (calm : Bool) (crossings : List Crossing) (retries every : Bool) (budget : ℕ) (runs chosen gone : List PartRun) (logs : List PartLog) → AreOf calm crossings runs logs → AreChosen every runs chosen → HaveGone retries budget chosen gone
+    → length logs ≡ length gone
+logs_even calm crossings retries every budget runs chosen gone logs o chose went = logs_count_as calm crossings every runs chosen logs o chose ∙ sym went.count
 
 pub logs_each : (n : DividedNetwork) (retries every : Bool) (budget : ℕ) (chosen gone carried : List PartRun) → Went n retries every budget chosen gone → CarriesOver n.crossings.items gone carried → length n.logs.items ≡ length carried
 logs_each n retries every budget chosen gone carried w over = logs_count n w.divided ∙ sym (over.same.count ∙ (w.went.count ∙ w.chose.count))

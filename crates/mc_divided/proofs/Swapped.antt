@@ -4,7 +4,7 @@ use Rattle.std.proofs.lemmas.Bool.{cases_lt}
 use Rattle.std.proofs.lemmas.List.{length-map}
 use Rattle.std.proofs.lemmas.Option.{slice_get_within}
 use Rattle.mc_box.specs.declared.event.Turn.{Turn}
-use Rattle.mc_merge.specs.Weaving.{AddsMerged, AreKnown, AreWoven, IsKnown, clock_at, clocks_of, log_at, logs_of, numbers_at, numbers_of, turn_in}
+use Rattle.mc_merge.specs.Weaving.{AddsMerged, AreKnown, AreWoven, AreWritten, IsKnown, IsWritten, clock_at, clocks_of, log_at, logs_of, numbers_at, numbers_of, turn_in, turns_at, turns_of}
 use Rattle.mc_merge.specs.declared.log.Made.{Made}
 use Rattle.mc_merge.specs.declared.log.PartLog.{PartLog}
 use Rattle.mc_part.specs.declared.part_run.PartRun.{PartRun}
@@ -41,7 +41,7 @@ maps_same f g (x ∷ xs) (y ∷ ys) count same = ap₂ (λ h t. h ∷ t) (same 0
 
 -- ---- what swapped logs are
 
-at_place : {A : Type 0} (xs : List A) (i : ℕ) → i < length xs → (x : A) × (slice_get xs i ≡ Some x)
+pub at_place : {A : Type 0} (xs : List A) (i : ℕ) → i < length xs → (x : A) × (slice_get xs i ≡ Some x)
 at_place [] i inside = absurd (omega (arith, inside))
 at_place (x ∷ xs) zero inside = (x, refl)
 at_place (x ∷ xs) (suc i) inside = at_place xs i (omega (arith, inside))
@@ -71,6 +71,13 @@ numbers_swapped f old new logs logs_2 pairs each =
     (λ i m l r q.
     let a = at_place old i (subst (λ (n : ℕ). i < n) each (slice_get_within logs i l q)) in
     ap (λ (log : PartLog). log.numbers.items) (log_is f old new logs logs_2 i a.0 l m pairs a.1 q r))
+
+pub turns_swapped : (f : PartRun → PartLog → PartRun) (old new : List PartRun) (logs logs_2 : List PartLog) → HavePairs f swapped_log old new logs logs_2 → length logs ≡ length old → turns_of logs_2 ≡ turns_of logs
+turns_swapped f old new logs logs_2 pairs each =
+    maps_same (λ (log : PartLog). log.turns.items) (λ (log : PartLog). log.turns.items) logs_2 logs pairs.count_logs
+    (λ i m l r q.
+    let a = at_place old i (subst (λ (n : ℕ). i < n) each (slice_get_within logs i l q)) in
+    ap (λ (log : PartLog). log.turns.items) (log_is f old new logs logs_2 i a.0 l m pairs a.1 q r))
 
 -- ---- the log at a place
 
@@ -133,3 +140,10 @@ pub known_swapped : (old mid : List PartRun) (logs logs_2 : List PartLog) → le
 known_swapped old mid logs logs_2 each pairs known part =
     subst (λ (l : List (List ℕ)). IsKnown (numbers_at l part) (log_at (logs_of logs_2) part)) (sym (numbers_swapped swapped_run old mid logs logs_2 pairs each))
     (subst (λ (l : List (List Made)). IsKnown (numbers_at (numbers_of logs) part) (log_at l part)) (sym (logs_swapped swapped_run old mid logs logs_2 pairs each)) (known part))
+
+pub written_swapped : (old mid : List PartRun) (logs logs_2 : List PartLog) → length logs ≡ length old → HavePairs swapped_run swapped_log old mid logs logs_2
+    → ((part : ℕ) → IsWritten (numbers_at (numbers_of logs) part) (log_at (logs_in old) part) (turns_at (turns_of logs) part)) → AreWritten logs_2
+written_swapped old mid logs logs_2 each pairs written part =
+    subst (λ (l : List (List ℕ)). IsWritten (numbers_at l part) (log_at (logs_of logs_2) part) (turns_at (turns_of logs_2) part)) (sym (numbers_swapped swapped_run old mid logs logs_2 pairs each))
+    (subst (λ (l : List (List Made)). IsWritten (numbers_at (numbers_of logs) part) (log_at l part) (turns_at (turns_of logs_2) part)) (sym (logs_swapped swapped_run old mid logs logs_2 pairs each))
+    (subst (λ (l : List (List Turn)). IsWritten (numbers_at (numbers_of logs) part) (log_at (logs_in old) part) (turns_at l part)) (sym (turns_swapped swapped_run old mid logs logs_2 pairs each)) (written part)))

@@ -51,6 +51,7 @@ fn empty_logs(
         let clock = clocks[logs.len()];
         logs.push(PartLog {
             made: Lane::new(alloc),
+            turns: Vec::new(alloc),
             numbers,
             clock,
         })?;

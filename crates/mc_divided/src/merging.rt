@@ -3,15 +3,16 @@
 ghost use Rattle.std.specs.Prelude.{◌≡◌, ◌<◌, ◌^◌, ℕ, [], length, OnOk};
 ghost use Rattle.mc_divided.specs.Phasing.{HaveMerged, logs_in};
 ghost use Rattle.mc_divided.specs.Swapping.{HavePairs, closed_run, swapped_log, swapped_run};
-ghost use Rattle.mc_merge.specs.Weaving.{AreClimbing, IsKnown, entry_count, log_at, logs_of, numbers_at, numbers_of};
+ghost use Rattle.mc_merge.specs.Weaving.{AreClimbing, IsKnown, IsWritten, entry_count, log_at, logs_of, numbers_at};
+ghost use Rattle.mc_merge.specs.Weaving.{numbers_of, turns_at, turns_of};
 
 use mc_box::Turn;
 use mc_part::{PartLog, PartRun, merge};
 use std::alloc::AllocError;
 use std::mem::swap;
 
-/// Merges the logs of all parts after the turns before, and empties them; stamps begin again from 0. It fails only for
-/// want of memory.
+/// Merges the logs of all parts after the turns before, and empties them; stamps begin again from 0. What the parts have
+/// written down of their turns goes over as it is. It fails only for want of memory.
 pub fn merge_logs(
     runs: &mut [PartRun],
     logs: &mut [PartLog],
@@ -22,6 +23,8 @@ pub fn merge_logs(
     requires few { entry_count (logs_in runs.old) < 2 ^ 32 }
     requires known { (part : ℕ) → IsKnown (numbers_at (numbers_of logs.old) part) (log_at (logs_in runs.old) part) }
     requires climb { AreClimbing (logs_in runs.old) }
+    requires written { (part : ℕ) → IsWritten (numbers_at (numbers_of logs.old) part) (log_at (logs_in runs.old) part)
+        (turns_at (turns_of logs.old) part) }
     ensures { OnOk result (HaveMerged runs.old runs.new logs.old logs.new turns.old.items turns.new.items) }
 {
     swap_logs(runs, logs);

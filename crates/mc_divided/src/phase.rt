@@ -79,7 +79,7 @@ fn play_parts<R: Threads + Sync, G: Gate + Sync>(
     let budget = budget_of(retries, short, runs);
     let busy = AtomicU64::new(choose(every, logs, runs));
     let size = runs.len();
-    run_parts(rt, gate, retries, every, budget, size, &busy, runs);
+    run_parts(rt, gate, retries, every, budget, size, &busy, runs, logs);
     check_memory(runs)?;
     carry_over(crossings, runs)?;
     merge_logs(runs, logs, turns)
