@@ -78,10 +78,10 @@ pub fn run_live<R: Threads + Wait + Sync, G: Gate + Sync>(
     for index in 0..batches.len() {
         let number = (index + 1) as u32;
         match settle_live(rt, alloc, gate, operators, now, &batches[index].turns) {
-            Ok(Settled { world, turns }) => {
+            Ok(Settled { world: next, turns }) => {
                 keep_settle(&turns, &mut journal)?;
-                print_settle(alloc, names, number, &world, &mut output)?;
-                now = world;
+                print_settle(alloc, names, number, &next, &mut output)?;
+                now = next;
             }
             Err(fault) => return stop_by(alloc, names, journal, fault),
         }
