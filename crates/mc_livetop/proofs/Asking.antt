@@ -1,9 +1,9 @@
 -- Words that ask for a live run ask for one.
-use Rattle.std.proofs.Common.{◌≡◌, ◌∙◌, ◌≤◌, ◌<◌, ℕ, Bool, List, [], ◌∷◌, Option, Some, None, Global, IfNone, IfSome, String, ap, arith, codes, length, map, option_map, string_bytes, subst, sym}
+use Rattle.std.proofs.Common.{◌≡◌, ◌∙◌, ℕ, Bool, List, [], ◌∷◌, Option, Some, None, Global, IfNone, String, codes, map, option_map, string_bytes, subst, sym}
 use Rattle.mc_livetop.specs.Words.{AskForLive, IsLiveCommand, SpellsLive}
 use Rattle.mc_livetop.specs.declared.words.LiveCommand.{LiveCommand}
 use Rattle.mc_text.specs.Spelling.{number_of}
-use Rattle.mc_words.specs.Arguments.{AreArguments, AreFew, plain_words, words_met}
+use Rattle.mc_words.specs.Arguments.{AreArguments, plain_words, words_met}
 
 -- ---- one run
 

@@ -1,5 +1,5 @@
 -- How a live run ends.
-use Rattle.std.proofs.Common.{◌≡◌, ◌⊎◌, ◌∙◌, ◌<◌, ℕ, Bool, true, false, List, [], map, inl, inr, refl, ap, sym, subst, arith, None, Some}
+use Rattle.std.proofs.Common.{◌≡◌, ◌⊎◌, ◌∙◌, ◌<◌, ℕ, Bool, true, false, List, [], map, inl, inr, refl, sym, subst, arith, None, Some}
 use Rattle.std.specs.declared.option.Option.{Option}
 use Rattle.std.specs.Io.KnownBytes.{Keeps}
 use Rattle.mc_call.proofs.Told.{keeps_same, told_declares, told_fault}
@@ -7,9 +7,8 @@ use Rattle.mc_call.specs.Answers.{Refuses}
 use Rattle.mc_call.specs.Calls.{Delivers, GivesUp, IsTextOf, ToldDeclares, ToldFault}
 use Rattle.mc_call.specs.Printed.{fault_line}
 use Rattle.mc_call.specs.Reasons.{PrintsStop}
-use Rattle.mc_call.specs.Statuses.{due_by, keeps_journal, stop_status}
+use Rattle.mc_call.specs.Statuses.{due_by, stop_status}
 use Rattle.mc_call.specs.declared.done.Done.{Done}
-use Rattle.mc_lines.specs.SoFar.{Declared}
 use Rattle.mc_lines.specs.declared.tail.Tail.TheVariants.{Nothing}
 use Rattle.mc_livetop.proofs.NeverStop.{never_shown}
 use Rattle.mc_livetop.proofs.Shows.{stops_show}
@@ -91,12 +90,21 @@ ends_at_stop operators asked told old new stop done is stops =
       no_journal = λ some. absurd (stop_keeps stop done.due is some);
     }
 
-pub ends_ran : (stop : Option SettleStop) (operators : ℕ) (asked : Bool) (text : List ℕ) (net : Net) (old new : Option (List ℕ)) (done : Done) (output : List ℕ) → 0 < operators
+ends_by : (stop : Option SettleStop) (operators : ℕ) (asked : Bool) (text : List ℕ) (net : Net) (old new : Option (List ℕ)) (done : Done) (output : List ℕ) → 0 < operators
     → DeclaresNet Nothing text net → IsSound net.world → IsLiveJournalTo operators stop net.world (map batch_turns net.batches.items) done.journal.items → output ≡ live_output asked net.names net.world stop done.journal.items
     → done.due ≡ due_by stop → Delivers done.status (due_by stop) old new output → EndsLive operators asked (Some text) old new done
-ends_ran None operators asked text net old new done output some declares sound ran is due_is delivered = ends_worked operators asked text net old new done output declares sound ran is due_is delivered
-ends_ran (Some stop) operators asked text net old new done output some declares sound ran is due_is delivered =
+ends_by None operators asked text net old new done output some declares sound ran is due_is delivered = ends_worked operators asked text net old new done output declares sound ran is due_is delivered
+ends_by (Some stop) operators asked text net old new done output some declares sound ran is due_is delivered =
     ends_at_stop operators asked (Some text) old new stop done due_is (stops_script operators asked text net stop old new done output some declares sound ran is due_is delivered)
+
+-- and its journal was kept
+pub ends_ran : (stop : Option SettleStop) (operators : ℕ) (asked : Bool) (text : List ℕ) (net : Net) (old new : Option (List ℕ)) (done : Done) (journal : List JournalLine) (output : List ℕ) → 0 < operators
+    → DeclaresNet Nothing text net → IsSound net.world → IsLiveJournalTo operators stop net.world (map batch_turns net.batches.items) journal → output ≡ live_output asked net.names net.world stop journal
+    → done.journal.items ≡ journal → done.due ≡ due_by stop → Delivers done.status (due_by stop) old new output → EndsLive operators asked (Some text) old new done
+ends_ran stop operators asked text net old new done journal output some declares sound ran is kept due_is delivered =
+    ends_by stop operators asked text net old new done output some declares sound
+    (subst (λ (lines : List JournalLine). IsLiveJournalTo operators stop net.world (map batch_turns net.batches.items) lines) (sym kept) ran)
+    (subst (λ (lines : List JournalLine). output ≡ live_output asked net.names net.world stop lines) (sym kept) is) due_is delivered
 
 -- ---- statuses
 
@@ -205,6 +213,7 @@ completes operators asked told old new text done dues stands ends is can no_read
   where
     never : StopsLiveScript operators told old new done.status done.due done.journal.items → ⊥
     never stops = stop_runs operators told old new text done.status done.due done.journal.items stops is can
+
     by : IsDueForLive done.due → done.status ≡ done.due → (done.status ≡ 0) ⊎ (done.status ≡ 3)
     by (inl (inl zero)) same = inl (same ∙ zero)
     by (inl (inr (inl one))) same = elim (ends.refused one) [

@@ -1,12 +1,12 @@
 -- The lines of the journal of a live run can be printed; and the batches of a text are short enough to be asked for.
-use Rattle.std.proofs.Common.{◌≡◌, ◌<◌, ◌≤◌, ◌+◌, ℕ, All, List, [], ◌∷◌, Option, Some, None, arith, length, map, subst, sym}
+use Rattle.std.proofs.Common.{◌≡◌, ◌<◌, ◌≤◌, ◌+◌, ℕ, All, List, [], ◌∷◌, Option, None, arith, length, map, subst, sym}
 use Rattle.std.specs.List.{AllByRecursion}
 use Rattle.std.proofs.lemmas.List.Elements.{All-from_recursion, All-weaker}
 use Rattle.mc_box.specs.declared.event.Turn.{Turn}
 use Rattle.mc_desk.specs.declared.limit.TheConstants.{REQUEST_LIMIT}
 use Rattle.mc_journal.specs.Printed.{IsNamedLine}
 use Rattle.mc_lines.specs.declared.tail.Tail.TheVariants.{Nothing}
-use Rattle.mc_livetop.proofs.Orders.{OfCommand, orders_hold}
+use Rattle.mc_livetop.proofs.Orders.{orders_hold}
 use Rattle.mc_livetop.specs.Journals.{IsLiveJournal, IsLiveJournalTo}
 use Rattle.mc_model.specs.Sound.{IsSound}
 use Rattle.mc_net.proofs.MadeNets.{nets_are_named}

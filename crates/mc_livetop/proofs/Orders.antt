@@ -1,11 +1,10 @@
 -- What holds of the commands of a batch holds of those of its orders.
 use Rattle.std.proofs.Common.{◌≡◌, ◌==◌, ◌&&◌, ◌<◌, ◌+◌, ◌%◌, cond, ℕ, Bool, true, false, All, List, [], ◌∷◌, arith, length, refl, subst, sym, ◌∙◌}
-use Rattle.std.specs.List.{AllByRecursion, AllZip}
+use Rattle.std.specs.List.{AllByRecursion}
 use Rattle.std.proofs.lemmas.Bool.{and_parts, eq-eqb}
 use Rattle.std.proofs.lemmas.List.Elements.{All-cons, All-from_recursion, All-head, All-nil, All-tail, recursion_from_All}
 use Rattle.mc_box.specs.BoxEvents.{is_command}
 use Rattle.mc_box.specs.declared.event.Turn.{Turn}
-use Rattle.mc_laws.proofs.CommandsGo.{both_true}
 use Rattle.mc_live_settle.proofs.Dealt.{hand_there, hands_count}
 use Rattle.mc_live_settle.specs.Orders.{AreInterleaved, AreOrdersOf, IsOrderOf, hand_from, hand_of, hands_for, owned_by}
 use Rattle.mc_model.specs.Settles.{commands_of}

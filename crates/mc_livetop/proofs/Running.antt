@@ -1,5 +1,5 @@
 -- A script that is run live: what its journal and its output have so far, and what follows.
-use Rattle.std.proofs.Common.{◌≡◌, ◌<◌, ◌≤◌, ◌++◌, ◌∷◌, [], ℕ, ◌+◌, All, Option, Some, None, List, drop, length, map, refl, ap, sym, ◌∙◌, subst, append-nil, append_assoc, inl, inr, slice_index_or}
+use Rattle.std.proofs.Common.{◌≡◌, ◌<◌, ◌≤◌, ◌++◌, ◌∷◌, [], ℕ, ◌+◌, Option, Some, None, List, drop, length, map, refl, ap, sym, ◌∙◌, subst, append-nil, append_assoc, inl, inr, slice_index_or}
 use Rattle.std.proofs.lemmas.List.{drop_all}
 use Rattle.mc_box.specs.declared.event.Turn.{Turn}
 use Rattle.mc_laws.proofs.ShapesKept.{run_keeps_shape, same_shape, shape_both}

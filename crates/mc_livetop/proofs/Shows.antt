@@ -1,9 +1,8 @@
 -- What a stop shows of a script that is run live.
-use Rattle.std.proofs.Common.{◌≡◌, ◌<◌, ◌≤◌, ◌+◌, inl, inr, ℕ, All, List, [], ◌∷◌, ◌++◌, arith, Contains, count_by, map, refl, subst, sym, ap, ◌∙◌}
+use Rattle.std.proofs.Common.{◌≡◌, ◌<◌, ◌≤◌, ◌+◌, inl, inr, ℕ, All, List, [], ◌∷◌, arith, Contains, count_by, refl, subst, sym, ap, ◌∙◌}
 use Rattle.std.specs.List.{AllByRecursion}
 use Rattle.std.proofs.lemmas.List.Elements.{All-cons, All-contains, All-contains_itself, All-nil, All-weaker, recursion_from_All}
 use Rattle.mc_box.specs.declared.event.Turn.{Turn}
-use Rattle.mc_grown_rest.specs.Rests.{RestsByWords, TellsFew}
 use Rattle.mc_laws.proofs.Chains.{first_named, named_links_close_none, run_keeps_named, used_up_come}
 use Rattle.mc_laws.proofs.HearCounts.{commands_hear, settles_count_hears}
 use Rattle.mc_laws.proofs.LastMet.{last_is_passed}
@@ -21,7 +20,6 @@ use Rattle.mc_live_settle.specs.Settles.{SettlesLive}
 use Rattle.mc_livetop.proofs.Orders.{order_holds}
 use Rattle.mc_livetop.specs.Journals.{IsStoppedLive}
 use Rattle.mc_livetop.specs.Laws.{LiveStopsShowCause, OneOperatorSettlesBatches}
-use Rattle.mc_livetop.specs.Shown.{ShowsLive}
 use Rattle.mc_model.specs.Settles.{IsSettled, hears_in, hears_of, is_hear_of, is_shift_of, is_tell_of}
 use Rattle.mc_model.specs.Sound.{IsSound}
 use Rattle.mc_model.specs.Unprogrammed.{HasNoPrograms}
@@ -30,7 +28,6 @@ use Rattle.mc_rounds.proofs.Plays.{count_both}
 use Rattle.mc_script.specs.declared.command.JournalLine.{JournalLine}
 use Rattle.mc_script_end.proofs.LastVersions.{hears_more}
 use Rattle.mc_script_end.proofs.ToldWords.{StillByWords, commands_tell, no_shift, same_tells, still_first}
-use Rattle.mc_seq.specs.declared.stopping.SettleStop.{SettleStop}
 use Rattle.mc_seq.specs.declared.stopping.SettleStop.TheVariants.{Restless, Ring, VersionEnd}
 use Rattle.mc_settings.proofs.BatchesLeft.{no_ring_is_met, no_ring_stays}
 use Rattle.mc_settings.specs.Batches.{LeavesNoRing, UseUp}

@@ -1,5 +1,5 @@
 -- A batch that stopped when it was run live: what it stopped at has a name, and the script ends with it.
-use Rattle.std.proofs.Common.{◌≡◌, ◌<◌, ℕ, List, drop, length, map, slice_index_or, subst, sym, ◌∙◌}
+use Rattle.std.proofs.Common.{◌<◌, ℕ, List, drop, length, map, slice_index_or, subst, sym, ◌∙◌}
 use Rattle.mc_box.proofs.Options.{then_some}
 use Rattle.mc_box.specs.declared.event.Turn.{Turn}
 use Rattle.mc_laws.proofs.Numbers.{number_is}

@@ -1,6 +1,6 @@
 // The top call.
 
-ghost use Rattle.std.specs.Prelude.{◌≡◌, ◌⊎◌, ◌==◌, ◌≤◌, ◌<◌, ℕ, Bool, List, [], length, map, All, IfOk, IsFalse, IsTrue, Some};
+ghost use Rattle.std.specs.Prelude.{◌≡◌, ◌⊎◌, ◌==◌, ◌≤◌, ◌<◌, ℕ, Bool, List, [], length, map, IfOk, IsFalse, IsTrue, Some};
 ghost use Rattle.mc_call.specs.Answers.{Answers};
 ghost use Rattle.mc_call.specs.Calls.{GivesUp, HasReadWhole, PrintsUsage};
 ghost use Rattle.mc_call.specs.Reasons.{EndsFor, Explains, IsFaultOf, IsFaultOfTold, usage_reason};
@@ -140,7 +140,7 @@ fn run_source<R: Threads + Wait + Sync, S: Source, K: Sink, G: Gate + Sync>(
     }
 }
 
-/// Runs the text that the source has left live, as the words ask for it, and writes what is to be printed.
+/// Runs the script of the text that the source has left live, as the words ask for it, and writes what it prints.
 ///
 /// The order is: words, reading, the text, its settles, writing. Nothing is written before all output is built. At most
 /// one byte more than the limit of a text is read, and nothing where the words are no command. For each settle all boxes
