@@ -1,5 +1,5 @@
-"""What `mediactl` may answer: its statuses, and what is printed with each. bench/failing and bench/hostile judge by it,
-and .ci/answers runs the program by it."""
+"""What `mediactl` and `medialive` may answer: their statuses, and what is printed with each. bench/failing and
+bench/hostile judge by it, and .ci/answers runs the programs by it."""
 import os
 import re
 import select
@@ -9,6 +9,7 @@ import time
 
 TOP = os.path.dirname(os.path.dirname(os.path.abspath(__file__)))
 BUILT = os.path.join(TOP, 'crates/mediactl/out/mediactl')
+BUILT_LIVE = os.path.join(TOP, 'crates/medialive/out/medialive')
 
 NAME = rb'[a-z][a-z0-9_-]{0,15}'
 SLOT = NAME + b'/' + NAME
@@ -39,7 +40,7 @@ PRINTED = {
     10: re.compile(rb'cut %s\n' % SLOT),
 }
 # what is told on standard error, line by line
-TOLD = re.compile(rb'(?:mediactl: [ -~]*\n)*')
+TOLD = re.compile(rb'(?:media(?:ctl|live): [ -~]*\n)*')
 
 
 def settles_are_numbered(printed):
@@ -101,8 +102,18 @@ class Runner:
 
 
 def examples():
-    """Every example: its name, its words, what it reads, and what lies beside it as what is printed."""
-    for folder, words in (('examples', ['run']), ('examples/journals', ['check']), ('examples/why', ['why']), ('examples/scenes', None)):
+    """Every example of `mediactl`: its name, its words, what it reads, and what lies beside it as what is printed."""
+    return of_folders(('examples', ['run']), ('examples/journals', ['check']), ('examples/why', ['why']), ('examples/scenes', None))
+
+
+def live_examples():
+    """The same of `medialive`: by one operator every example prints what `run` does."""
+    return of_folders(('examples', ['live', '1']), ('examples/live', None))
+
+
+def of_folders(*folders):
+    """The cases of these folders, with these words, or without them by those that lie beside each case."""
+    for folder, words in folders:
         for name in sorted(os.listdir(os.path.join(TOP, folder))):
             path = os.path.join(TOP, folder, name)
             if not os.path.isfile(path + '.stdout'):
