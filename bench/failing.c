@@ -5,7 +5,8 @@
 //   HOW    once: this call fails; on: this one and all after it; short: it takes one byte; nothing: it takes none, and
 //          doesn't fail; interrupted: it fails as one does that a signal interrupts
 //   PIECE  the most bytes that a read or a write takes, in each call; 0 for as many as are asked for
-//   TOLD   a descriptor to which a byte is written where a call was made to do otherwise than it would
+//   TOLD   a descriptor to which `!` is written where a call was made to do otherwise than it would, and `t` where a
+//          thread isn't made, be it for this or for want of memory
 #define _GNU_SOURCE
 #include <dlfcn.h>
 #include <errno.h>
@@ -33,12 +34,16 @@ static long number(const char *name) {
   return found ? atol(found) : 0;
 }
 
+static void tell(const char *mark) {
+  if (getenv("TOLD")) syscall(SYS_write, number("TOLD"), mark, 1L);
+}
+
 // Whether this call of the kind is one that is to do otherwise.
 static int struck(const char *kind) {
   if (!is("FAIL", kind)) return 0;
   long at = number("AT"), call = atomic_fetch_add(&calls, 1) + 1;
   if (!at || call < at || (call > at && !is("HOW", "on"))) return 0;
-  if (getenv("TOLD")) syscall(SYS_write, number("TOLD"), "!", 1L);
+  tell("!");
   return 1;
 }
 
@@ -62,7 +67,9 @@ int posix_memalign(void **out, size_t align, size_t size) {
 
 int pthread_create(pthread_t *thread, const pthread_attr_t *attributes, void *(*job)(void *), void *with) {
   int (*real)(pthread_t *, const pthread_attr_t *, void *(*)(void *), void *) = dlsym(RTLD_NEXT, "pthread_create");
-  return struck("thread") ? EAGAIN : real(thread, attributes, job, with);
+  int fault = struck("thread") ? EAGAIN : real(thread, attributes, job, with);
+  if (fault) tell("t");
+  return fault;
 }
 
 // How many bytes a read or a write may take, of so many; -1 where it fails.
