@@ -1,6 +1,14 @@
 -- The statuses that may be due.
 use Rattle.std.specs.Prelude.{◌≡◌, ◌⊎◌, ℕ}
-use Rattle.mc_call.specs.declared.status.TheConstants.{WORKED, FAULTY_TEXT, USAGE, NO_MEMORY, READ_FAULT, RESTLESS, RING}
+use Rattle.mc_call.specs.declared.status.TheConstants.{
+  WORKED,
+  FAULTY_TEXT,
+  USAGE,
+  NO_MEMORY,
+  READ_FAULT,
+  RESTLESS,
+  RING,
+}
 
 -- the status may be due for a text that was read whole; that of a stop at the last version is that of a fault
 abbrev pub IsDueForText : ℕ → Type 0

@@ -8,8 +8,8 @@ pub fn one_operator_settles_batches()
     ensures { OneOperatorSettlesBatches }
 {}
 
-/// A stop of a live run shows its cause in what the script says: at the last version in versions and Hears, at a ring in
-/// links, and for one operator in goals, at a restless box in programs and told words.
+/// A stop of a live run shows its cause in what the script says: at the last version in versions and Hears, at a ring
+/// in links, and for one operator in goals, at a restless box in programs and told words.
 pub fn live_stops_show_cause()
     ensures { LiveStopsShowCause }
 {}

@@ -143,9 +143,9 @@ fn run_source<R: Threads + Wait + Sync, S: Source, K: Sink, G: Gate + Sync>(
 /// Runs the script of the text that the source has left live, as the words ask for it, and writes what it prints.
 ///
 /// The order is: words, reading, the text, its settles, writing. Nothing is written before all output is built. At most
-/// one byte more than the limit of a text is read, and nothing where the words are no command. For each settle all boxes
-/// run freely, each on a thread, while the operators ask for its commands from threads of their own; that the call
-/// returns isn't promised, as these may wait.
+/// one byte more than the limit of a text is read, and nothing where the words are no command. For each settle all
+/// boxes run freely, each on a thread, while the operators ask for its commands from threads of their own; that the
+/// call returns isn't promised, as these may wait.
 pub fn live_top<R: Threads + Wait + Sync, S: Source, K: Sink, G: Gate + Sync>(
     rt: &R,
     alloc: Global,

@@ -1,6 +1,6 @@
 //! `medialive` settles a text from standard input while its boxes run freely, each on a thread of its own, and several
-//! operators ask them for their commands at once. It prints the paths of its calls, as `mediactl run` does. Where it ends
-//! with another status than 0, it tells on standard error why.
+//! operators ask them for their commands at once. It prints the paths of its calls, as `mediactl run` does. Where it
+//! ends with another status than 0, it tells on standard error why.
 #![tactic(auto)]
 
 use mc_call::status::{NO_MEMORY, WORKED};
