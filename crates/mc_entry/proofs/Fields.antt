@@ -81,21 +81,23 @@ event_read event more s0 s1 s2 s3 kind first second found r1 r2 r3 found_is is =
       three.1,
     )
 
-pub at_read : (one : AtEnd) (more s0 s1 s2 s3 s4 s5 : List ℕ) (end number stamp tunnel : ℕ) (signal : Signal) → FitsAt one
-    → ReadsWord4 s0 s1 end → ReadsWord8 s1 s2 number → ReadsWord8 s2 s3 stamp → ReadsByte s3 s4 tunnel
-    → Reads FitsSignal signal_wire s4 s5 signal → s0 ≡ at_wire one more
-    → (record { end = end; item = record { number = number; stamp = stamp; tunnel = tunnel; signal = signal } } ≡ one) × (s5 ≡ more)
-at_read one more s0 s1 s2 s3 s4 s5 end number stamp tunnel signal fits r1 r2 r3 r4 r5 is =
+pub at_read : (one : AtEnd) (more s0 s1 s2 s3 s4 s5 s6 : List ℕ) (end number stamp digest tunnel : ℕ) (signal : Signal) → FitsAt one
+    → ReadsWord4 s0 s1 end → ReadsWord8 s1 s2 number → ReadsWord8 s2 s3 stamp → ReadsWord8 s3 s4 digest → ReadsByte s4 s5 tunnel
+    → Reads FitsSignal signal_wire s5 s6 signal → s0 ≡ at_wire one more
+    → (record { end = end; item = record { number = number; stamp = stamp; digest = digest; tunnel = tunnel; signal = signal } } ≡ one) × (s6 ≡ more)
+at_read one more s0 s1 s2 s3 s4 s5 s6 end number stamp digest tunnel signal fits r1 r2 r3 r4 r5 r6 is =
     let first = r1 one.end _ fits.end is in
     let second = r2 one.item.number _ fits.number first.1 in
     let third = r3 one.item.stamp _ fits.stamp second.1 in
-    let fourth = r4 one.item.tunnel _ third.1 in
-    let fifth = r5 one.item.signal more fits.signal fourth.1 in
-    let made : ℕ → ℕ → ℕ → ℕ → Signal → AtEnd = λ e n s t g. record { end = e; item = record { number = n; stamp = s; tunnel = t; signal = g } } in (
-      ap (λ (e : ℕ). made e number stamp tunnel signal) first.0
-          ∙ (ap (λ (n : ℕ). made one.end n stamp tunnel signal) second.0
-          ∙ (ap (λ (s : ℕ). made one.end one.item.number s tunnel signal) third.0
-          ∙ (ap (λ (t : ℕ). made one.end one.item.number one.item.stamp t signal) fourth.0
-          ∙ ap (λ (g : Signal). made one.end one.item.number one.item.stamp one.item.tunnel g) fifth.0))),
-      fifth.1,
+    let fourth = r4 one.item.digest _ fits.digest third.1 in
+    let fifth = r5 one.item.tunnel _ fourth.1 in
+    let sixth = r6 one.item.signal more fits.signal fifth.1 in
+    let made : ℕ → ℕ → ℕ → ℕ → ℕ → Signal → AtEnd = λ e n s d t g. record { end = e; item = record { number = n; stamp = s; digest = d; tunnel = t; signal = g } } in (
+      ap (λ (e : ℕ). made e number stamp digest tunnel signal) first.0
+          ∙ (ap (λ (n : ℕ). made one.end n stamp digest tunnel signal) second.0
+          ∙ (ap (λ (s : ℕ). made one.end one.item.number s digest tunnel signal) third.0
+          ∙ (ap (λ (d : ℕ). made one.end one.item.number one.item.stamp d tunnel signal) fourth.0
+          ∙ (ap (λ (t : ℕ). made one.end one.item.number one.item.stamp one.item.digest t signal) fifth.0
+          ∙ ap (λ (g : Signal). made one.end one.item.number one.item.stamp one.item.digest one.item.tunnel g) sixth.0)))),
+      sixth.1,
     )

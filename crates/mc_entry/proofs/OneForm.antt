@@ -173,14 +173,17 @@ at_one a b x y fits fits_2 is =
     let one = word4_one a.end b.end _ _ fits.end fits_2.end is in
     let two = word8_one a.item.number b.item.number _ _ fits.number fits_2.number one.1 in
     let three = word8_one a.item.stamp b.item.stamp _ _ fits.stamp fits_2.stamp two.1 in
-    let tunnel = heads a.item.tunnel b.item.tunnel (signal_wire a.item.signal x) (signal_wire b.item.signal y) three.1 in
-    let four = signal_one a.item.signal b.item.signal x y fits.signal fits_2.signal (tails a.item.tunnel b.item.tunnel (signal_wire a.item.signal x) (signal_wire b.item.signal y) three.1) in (
-      ap (λ (n : ℕ). record { end = n; item = a.item }) one.0
-          ∙ (ap (λ (n : ℕ). record { end = b.end; item = record { number = n; stamp = a.item.stamp; tunnel = a.item.tunnel; signal = a.item.signal } }) two.0
-          ∙ (ap (λ (n : ℕ). record { end = b.end; item = record { number = b.item.number; stamp = n; tunnel = a.item.tunnel; signal = a.item.signal } }) three.0
-          ∙ (ap (λ (n : ℕ). record { end = b.end; item = record { number = b.item.number; stamp = b.item.stamp; tunnel = n; signal = a.item.signal } }) tunnel
-          ∙ ap (λ (s : Signal). record { end = b.end; item = record { number = b.item.number; stamp = b.item.stamp; tunnel = b.item.tunnel; signal = s } }) four.0))),
-      four.1,
+    let four = word8_one a.item.digest b.item.digest _ _ fits.digest fits_2.digest three.1 in
+    let tunnel = heads a.item.tunnel b.item.tunnel (signal_wire a.item.signal x) (signal_wire b.item.signal y) four.1 in
+    let five = signal_one a.item.signal b.item.signal x y fits.signal fits_2.signal (tails a.item.tunnel b.item.tunnel (signal_wire a.item.signal x) (signal_wire b.item.signal y) four.1) in
+    let made : ℕ → ℕ → ℕ → ℕ → ℕ → Signal → AtEnd = λ e n s d t g. record { end = e; item = record { number = n; stamp = s; digest = d; tunnel = t; signal = g } } in (
+      ap (λ (e : ℕ). made e a.item.number a.item.stamp a.item.digest a.item.tunnel a.item.signal) one.0
+          ∙ (ap (λ (n : ℕ). made b.end n a.item.stamp a.item.digest a.item.tunnel a.item.signal) two.0
+          ∙ (ap (λ (s : ℕ). made b.end b.item.number s a.item.digest a.item.tunnel a.item.signal) three.0
+          ∙ (ap (λ (d : ℕ). made b.end b.item.number b.item.stamp d a.item.tunnel a.item.signal) four.0
+          ∙ (ap (λ (t : ℕ). made b.end b.item.number b.item.stamp b.item.digest t a.item.signal) tunnel
+          ∙ ap (λ (g : Signal). made b.end b.item.number b.item.stamp b.item.digest b.item.tunnel g) five.0)))),
+      five.1,
     )
 
 all_one : (a b : List AtEnd) (x y : List ℕ) → length a ≡ length b → AllByRecursion FitsAt a → AllByRecursion FitsAt b → all_wire a x ≡ all_wire b y → (a ≡ b) × (x ≡ y)
@@ -237,7 +240,7 @@ event_one a b x y is =
 
 pub one_form : OneForm
 one_form a b more rest fits fits_2 is =
-    let start = tails 1 1 _ _ is in
+    let start = tails 2 2 _ _ is in
     let one = word4_one a.who b.who _ _ fits.who fits_2.who start in
     let two = word8_one a.stamp b.stamp _ _ fits.stamp fits_2.stamp one.1 in
     let three = event_one a.event b.event _ _ two.1 in

@@ -11,10 +11,6 @@ use Rattle.mc_signal.specs.declared.Signal.TheVariants.{Open, Oack, Close, Close
 use Rattle.mc_slot.specs.declared.Goal.{Goal}
 use Rattle.mc_slot.specs.declared.Goal.TheVariants.{Open as ToOpen, Close as ToClose, Hold as ToHold}
 
-abbrev pub medium_code : Medium → ℕ
-medium_code Audio = 0
-medium_code Video = 1
-
 abbrev pub kind_code : Signal → ℕ
 kind_code (Open medium d) = 0
 kind_code (Oack d) = 1

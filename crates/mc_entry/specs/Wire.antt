@@ -10,7 +10,8 @@ use Rattle.mc_signal.specs.declared.Signal.{Signal}
 use Rattle.mc_signal.specs.declared.Signal.TheVariants.{Open, Oack, Close, Closeack, Describe, Select}
 use Rattle.mc_shard.specs.Journals.{EntryState}
 use Rattle.mc_shard.specs.declared.entry.AtEnd.{AtEnd}
-use Rattle.mc_entry.specs.Codes.{event_code, kind_code, medium_code}
+use Rattle.mc_shard.specs.Digests.{medium_code}
+use Rattle.mc_entry.specs.Codes.{event_code, kind_code}
 
 -- ---- numbers
 
@@ -59,10 +60,11 @@ body_wire (Select s) more = 0 ∷ selector_wire s more
 abbrev pub signal_wire : Signal → List ℕ → List ℕ
 signal_wire signal more = kind_code signal ∷ body_wire signal more
 
--- 46 bytes
+-- 54 bytes
 abbrev pub at_wire : AtEnd → List ℕ → List ℕ
 at_wire one more =
-    word4 one.end (word8 one.item.number (word8 one.item.stamp (one.item.tunnel ∷ signal_wire one.item.signal more)))
+    word4 one.end (word8 one.item.number (word8 one.item.stamp (word8 one.item.digest
+    (one.item.tunnel ∷ signal_wire one.item.signal more))))
 
 abbrev pub all_wire : List AtEnd → List ℕ → List ℕ
 all_wire [] more = more
@@ -80,9 +82,9 @@ event_wire event more = (event_code event).0 ∷ (event_code event).1 ∷ (event
 
 -- the version of the form
 abbrev pub form_version : ℕ
-form_version = 1
+form_version = 2
 
--- 19 bytes, 46 for what was taken, and 46 for each signal that was sent
+-- 19 bytes, 54 for what was taken, and 54 for each signal that was sent
 abbrev pub entry_wire : EntryState → List ℕ → List ℕ
 entry_wire entry more = form_version ∷ word4 entry.who (word8 entry.stamp (event_wire entry.event
     (taken_wire entry.taken (word2 (length entry.sent) (all_wire entry.sent more)))))
@@ -114,6 +116,7 @@ pub record FitsAt (one : AtEnd) : Type 0 where
   pub end : one.end < 2 ^ 32
   pub number : one.item.number < 2 ^ 64
   pub stamp : one.item.stamp < 2 ^ 64
+  pub digest : one.item.digest < 2 ^ 64
   pub signal : FitsSignal one.item.signal
 
 abbrev pub FitsTaken : Option AtEnd → Type 0

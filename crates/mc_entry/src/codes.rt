@@ -1,24 +1,14 @@
 // The numbers that stand for variants.
 
 ghost use Rattle.std.specs.Prelude.{◌≡◌, ℕ};
-ghost use Rattle.mc_entry.specs.Codes.{bit_code, event_code, event_of, goal_code, goal_of, medium_code, medium_of};
+ghost use Rattle.mc_entry.specs.Codes.{bit_code, event_code, event_of, goal_code, goal_of, medium_of};
 
 use mc_box::{Change, Event, MediaChange};
 use mc_signal::Medium;
 use mc_slot::Goal;
 
 /// The version of the form.
-pub const FORM_VERSION: u8 = 1;
-
-/// The number of a medium.
-pub fn medium_code(medium: Medium) -> u8
-    ensures { result ≡ medium_code medium }
-{
-    match medium {
-        Medium::Audio => 0,
-        Medium::Video => 1,
-    }
-}
+pub const FORM_VERSION: u8 = 2;
 
 fn goal_code(goal: Goal) -> u8
     ensures { result ≡ goal_code goal }

@@ -123,11 +123,13 @@ fn read_at(bytes: &mut Bytes<'_>) -> AtEnd
     let end = bytes.word4();
     let number = bytes.word8();
     let stamp = bytes.word8();
+    let digest = bytes.word8();
     let tunnel = bytes.byte();
     let signal = read_signal(bytes);
     let item = Numbered {
         number,
         stamp,
+        digest,
         tunnel,
         signal,
     };

@@ -3,10 +3,10 @@
 ghost use Rattle.std.specs.Prelude.{◌≡◌, ◌++◌, ◌∷◌, ◌<◌, ◌^◌, List, ℕ, [], length, OnOk};
 ghost use Rattle.mc_entry.specs.Wire.{Writes, all_wire, at_wire, codec_wire, codecs_wire, descriptor_wire, entry_wire, event_wire, selector_wire, signal_wire, taken_wire, word2, word4, word8, zeros};
 
-use crate::codes::{FORM_VERSION, event_code, medium_code};
+use crate::codes::{FORM_VERSION, event_code};
 use mc_box::Event;
 use mc_lane::Lane;
-use mc_shard::{AtEnd, Entry};
+use mc_shard::{AtEnd, Entry, medium_code};
 use mc_signal::{CodecList, Descriptor, Selector, Signal};
 use std::alloc::AllocError;
 
@@ -126,6 +126,7 @@ fn put_at(out: &mut Vec<u8>, one: &AtEnd) -> Result<(), AllocError>
     put4(out, one.end)?;
     put8(out, one.item.number)?;
     put8(out, one.item.stamp)?;
+    put8(out, one.item.digest)?;
     put(out, &[one.item.tunnel])?;
     put_signal(out, &one.item.signal)
 }
@@ -159,7 +160,7 @@ fn put_all(out: &mut Vec<u8>, sent: &Lane<AtEnd>) -> Result<(), AllocError>
     Ok(())
 }
 
-/// Appends an entry's bytes: 19, then 46 for what was taken, and 46 for each signal that was sent. After an error the
+/// Appends an entry's bytes: 19, then 54 for what was taken, and 54 for each signal that was sent. After an error the
 /// buffer has a part of them.
 pub fn write_entry(entry: &Entry, out: &mut Vec<u8>) -> Result<(), AllocError>
     requires { length entry.now.sent < 2 ^ 16 }

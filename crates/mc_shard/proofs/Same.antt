@@ -12,7 +12,6 @@ use Rattle.mc_signal.specs.declared.Signal.TheVariants.{Open, Oack, Close, Close
 use Rattle.mc_signal.specs.contracts.SignalPartialEq.TheImpl as signal
 use Rattle.mc_signal.proofs.Equal.{descriptor_eq, selector_eq}
 use Rattle.mc_shard.specs.Same.{is_same_at}
-use Rattle.mc_shard.specs.contracts.entry.AtEndEq.TheImpl.Laws as at_end_laws
 use Rattle.mc_shard.specs.declared.entry.AtEnd.{AtEnd}
 
 abbrev is_same_signal : Signal → Signal → Bool
@@ -71,11 +70,12 @@ at_eq a b same =
     let end : a.end ≡ b.end = grind (arith, common_steps) in
     let number : a.item.number ≡ b.item.number = grind (arith, common_steps) in
     let stamp : a.item.stamp ≡ b.item.stamp = grind (arith, common_steps) in
+    let digest : a.item.digest ≡ b.item.digest = grind (arith, common_steps) in
     let tunnel : a.item.tunnel ≡ b.item.tunnel = grind (arith, common_steps) in
     let is : is_same_signal a.item.signal b.item.signal ≡ true = grind (arith, common_steps) in
     let signal : a.item.signal ≡ b.item.signal = signal_eq a.item.signal b.item.signal is in
-    let fields : (a.end, a.item.number, a.item.stamp, a.item.tunnel, a.item.signal) ≡ (b.end, b.item.number, b.item.stamp, b.item.tunnel, b.item.signal) = cc in
-    ap (λ (t : ℕ × ℕ × ℕ × ℕ × Signal). record { end = t.0; item = record { number = t.1; stamp = t.2; tunnel = t.3; signal = t.4 } }) fields
+    let fields : (a.end, a.item.number, a.item.stamp, a.item.digest, a.item.tunnel, a.item.signal) ≡ (b.end, b.item.number, b.item.stamp, b.item.digest, b.item.tunnel, b.item.signal) = cc in
+    ap (λ (t : ℕ × ℕ × ℕ × ℕ × ℕ × Signal). record { end = t.0; item = record { number = t.1; stamp = t.2; digest = t.3; tunnel = t.4; signal = t.5 } }) fields
 
 -- lists with the same at each place
 pub same_by_get : (xs ys : List AtEnd) → length xs ≡ length ys → ((k : ℕ) → k < length xs → slice_get xs k ≡ slice_get ys k) → xs ≡ ys

@@ -4,6 +4,7 @@ use Rattle.std.proofs.Math.ListN.{get_or}
 use Rattle.mc_shard.specs.Shards.{AreEnds, IsShaped, LaidShard}
 use Rattle.mc_shard.specs.States.{ShardState, count_at, places_of, raised_all}
 use Rattle.mc_shard.specs.declared.entry.AtEnd.{AtEnd}
+use Rattle.mc_shard.specs.declared.reached.Reached.{Reached}
 use Rattle.mc_shard.specs.declared.limit.TheConstants.{LAST_STAMP, SENT_LIMIT}
 use Rattle.mc_shard.proofs.Counts.{all_length, all_within}
 
@@ -19,8 +20,8 @@ pub shaped_after : (old : LaidShard) (next : ShardState) (xs ys : List AtEnd) �
     → next.taken ≡ raised_all old.state.taken ys → length ys ≤ 1 → old.state.stamp < next.stamp
     → next.stamp ≤ LAST_STAMP → IsShaped (record old { state = next })
 shaped_after old next xs ys shaped boxes sent few taken one rises fits =
-    let sent_long : length next.sent ≡ length old.state.sent = ap (λ (l : List ℕ). length l) sent ∙ all_length xs old.state.sent in
-    let taken_long : length next.taken ≡ length old.state.taken = ap (λ (l : List ℕ). length l) taken ∙ all_length ys old.state.taken in
+    let sent_long : length next.sent ≡ length old.state.sent = ap (λ (l : List Reached). length l) sent ∙ all_length xs old.state.sent in
+    let taken_long : length next.taken ≡ length old.state.taken = ap (λ (l : List Reached). length l) taken ∙ all_length ys old.state.taken in
     record {
       box_count = shaped.box_count ∙ sym boxes;
       taken_count = taken_long ∙ (shaped.taken_count ∙ sym sent_long);
@@ -29,11 +30,11 @@ shaped_after old next xs ys shaped boxes sent few taken one rises fits =
       owned = shaped.owned;
       stamp = fits;
       few_sent = λ end.
-          let now : count_at next.sent end ≤ count_at old.state.sent end + length xs = subst (λ (l : List ℕ). count_at l end ≤ count_at old.state.sent end + length xs) (sym sent) (all_within xs old.state.sent end) in
+          let now : count_at next.sent end ≤ count_at old.state.sent end + length xs = subst (λ (l : List Reached). count_at l end ≤ count_at old.state.sent end + length xs) (sym sent) (all_within xs old.state.sent end) in
           let before : count_at old.state.sent end ≤ SENT_LIMIT * old.state.stamp = shaped.few_sent end in
           omega arith;
       few_taken = λ end.
-          let now : count_at next.taken end ≤ count_at old.state.taken end + length ys = subst (λ (l : List ℕ). count_at l end ≤ count_at old.state.taken end + length ys) (sym taken) (all_within ys old.state.taken end) in
+          let now : count_at next.taken end ≤ count_at old.state.taken end + length ys = subst (λ (l : List Reached). count_at l end ≤ count_at old.state.taken end + length ys) (sym taken) (all_within ys old.state.taken end) in
           let before : count_at old.state.taken end ≤ old.state.stamp = shaped.few_taken end in
           omega arith;
     }

@@ -1,3 +1,4 @@
+pub mod Digests
 pub mod Journals
 pub mod States
 pub mod Shards

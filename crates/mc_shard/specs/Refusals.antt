@@ -5,11 +5,11 @@ use Rattle.mc_box.specs.declared.event.Event.{Event}
 use Rattle.mc_box.specs.declared.event.Event.TheVariants.{Take}
 use Rattle.mc_shard.specs.Journals.{EntryState}
 use Rattle.mc_shard.specs.Shards.{LaidShard}
-use Rattle.mc_shard.specs.States.{IsJournal, MayFollow, Places, ShardState, box_in, count_at, places_of, state_after}
+use Rattle.mc_shard.specs.States.{Follows, IsJournal, MayFollow, Places, ShardState, box_in, count_at, places_of, reached_at, state_after}
 use Rattle.mc_shard.specs.declared.entry.AtEnd.{AtEnd}
 use Rattle.mc_shard.specs.declared.limit.TheConstants.{LAST_STAMP}
 use Rattle.mc_shard.specs.declared.refused.Refused.{Refused}
-use Rattle.mc_shard.specs.declared.refused.Refused.TheVariants.{Ahead, NoBox, NoEnd, NoMemory, NoTunnel, NotEnabled, Stamp, Unlawful, VersionEnd}
+use Rattle.mc_shard.specs.declared.refused.Refused.TheVariants.{Ahead, Digest, NoBox, NoEnd, NoMemory, NoTunnel, NotEnabled, Stamp, Unlawful, VersionEnd}
 
 -- ---- why a request makes no turn
 
@@ -64,10 +64,16 @@ pub record HasUnfitSlot (shard : LaidShard) (at : AtEnd) : Type 0 where
   pub there : IsAt shard who slot at
   pub cannot : CannotTake shard who slot at
 
+-- it is the next of its lane by its number, and not by its digest
+pub record HasOtherDigest (shard : LaidShard) (at : AtEnd) : Type 0 where
+  pub number : at.item.number ≡ count_at shard.state.taken at.end + 1
+  pub differs : Follows (reached_at shard.state.taken at.end).digest at.item → ⊥
+
 abbrev pub HindersTake : Refused → LaidShard → AtEnd → Type 0
 HindersTake NoMemory shard at = Unit {0}
 HindersTake NoEnd shard at = length shard.state.taken ≤ at.end
 HindersTake Ahead shard at = count_at shard.state.taken at.end + 1 < at.item.number
+HindersTake Digest shard at = HasOtherDigest shard at
 HindersTake Stamp shard at = LAST_STAMP ≤ max shard.state.stamp at.item.stamp
 HindersTake NoTunnel shard at = HasNoSlot shard at
 HindersTake Unlawful shard at = HasUnfitSlot shard at

@@ -3,7 +3,7 @@ use Rattle.std.specs.Prelude.{◌≡◌, ℕ, ◌+◌, ◌*◌, ◌<◌, ◌≤�
 use Rattle.mc_box.specs.Boxes.{BoxState}
 use Rattle.mc_box.specs.declared.event.Event.{Event}
 use Rattle.mc_shard.specs.Journals.{EntryState}
-use Rattle.mc_shard.specs.States.{MayFollow, Places, ShardState, after_entry, count_at, places_of}
+use Rattle.mc_shard.specs.States.{MayFollow, Places, ShardState, after_entry, count_at, none_reached, places_of}
 use Rattle.mc_shard.specs.declared.entry.AtEnd.{AtEnd}
 use Rattle.mc_shard.specs.declared.limit.TheConstants.{LAST_STAMP, SENT_LIMIT}
 use Rattle.mc_shard.specs.declared.parts.ShardParts.{ShardParts}
@@ -68,7 +68,12 @@ pub record AreLaid (boxes : List BoxState) (places : Places) (owners : List ℕ)
 
 -- nothing was sent or taken yet
 abbrev pub first_state : List BoxState → ℕ → ShardState
-first_state boxes ends = record { boxes = boxes; stamp = 0; sent = replicate ends 0; taken = replicate ends 0 }
+first_state boxes ends = record {
+  boxes = boxes;
+  stamp = 0;
+  sent = replicate ends none_reached;
+  taken = replicate ends none_reached;
+}
 
 -- ---- a turn
 

@@ -6,8 +6,11 @@ use Rattle.mc_box.specs.BoxEvents.{BoxStep, box_event}
 use Rattle.mc_box.specs.Boxes.{BoxState, no_box}
 use Rattle.mc_box.specs.declared.event.Event.{Event}
 use Rattle.mc_box.specs.declared.event.Event.TheVariants.{Take}
+use Rattle.mc_shard.specs.Digests.{digest_after}
 use Rattle.mc_shard.specs.Journals.{EntryState, taken_list}
 use Rattle.mc_shard.specs.declared.entry.AtEnd.{AtEnd}
+use Rattle.mc_shard.specs.declared.entry.Numbered.{Numbered}
+use Rattle.mc_shard.specs.declared.reached.Reached.{Reached}
 
 -- for each box of the shard, and each of its slots, the channel end at which the slot is, by its number in the shard,
 -- and its tunnel there
@@ -19,49 +22,75 @@ places_of places who = slice_index_or places who []
 
 -- ---- states
 
--- boxes; the stamp of the last turn; and for each end how many signals were sent there, and taken
+-- boxes; the stamp of the last turn; and for each end how far its lanes are, by what was sent there, and taken
 pub record ShardState : Type 0 where
   pub boxes : List BoxState
   pub stamp : ℕ
-  pub sent : List ℕ
-  pub taken : List ℕ
+  pub sent : List Reached
+  pub taken : List Reached
 
 abbrev pub box_in : ShardState → ℕ → BoxState
 box_in state who = slice_index_or state.boxes who no_box
 
-abbrev pub count_at : List ℕ → ℕ → ℕ
-count_at counts end = slice_index_or counts end 0
+-- a lane without signals
+abbrev pub none_reached : Reached
+none_reached = record { count = 0; digest = 0 }
 
--- one more at an end
-abbrev pub raised : List ℕ → ℕ → List ℕ
-raised counts end = slice_set counts end (count_at counts end + 1)
+abbrev pub reached_at : List Reached → ℕ → Reached
+reached_at lanes end = slice_index_or lanes end none_reached
 
--- and one more for each of these
-abbrev pub raised_all : List ℕ → List AtEnd → List ℕ
-raised_all counts [] = counts
-raised_all counts (one ∷ rest) = raised_all (raised counts one.end) rest
+abbrev pub count_at : List Reached → ℕ → ℕ
+count_at lanes end = (reached_at lanes end).count
 
--- each has the next number of its end
-abbrev pub AreNext : List ℕ → List AtEnd → Type 0
-AreNext counts [] = Unit {0}
-AreNext counts (one ∷ rest) = (one.item.number ≡ count_at counts one.end + 1) × AreNext (raised counts one.end) rest
+-- one more at its end
+abbrev pub raised : List Reached → AtEnd → List Reached
+raised lanes one = slice_set lanes one.end (record { count = count_at lanes one.end + 1; digest = one.item.digest })
+
+-- and each of these
+abbrev pub raised_all : List Reached → List AtEnd → List Reached
+raised_all lanes [] = lanes
+raised_all lanes (one ∷ rest) = raised_all (raised lanes one) rest
+
+-- its digest goes on from this one
+abbrev pub Follows : ℕ → Numbered → Type 0
+Follows last item = item.digest ≡ digest_after last item.number item.stamp item.tunnel item.signal
+
+-- it is the next signal of a lane that is so far
+pub record IsNext (last : Reached) (item : Numbered) : Type 0 where
+  pub number : item.number ≡ last.count + 1
+  pub digest : Follows last.digest item
+
+-- each is the next of its lane
+abbrev pub AreNext : List Reached → List AtEnd → Type 0
+AreNext lanes [] = Unit {0}
+AreNext lanes (one ∷ rest) = IsNext (reached_at lanes one.end) one.item × AreNext (raised lanes one) rest
 
 -- ---- what a box sends, as its journal has it
 
--- a signal at the place of its slot, with the next number there. A slot without a place sends nothing
-abbrev pub numbered_if : Option (ℕ × ℕ) → ℕ → List ℕ → Signal → List AtEnd
-numbered_if None stamp counts signal = []
-numbered_if (Some place) stamp counts signal = record {
+-- the next signal of a lane that is so far
+abbrev pub next_item : Reached → ℕ → ℕ → Signal → Numbered
+next_item last stamp tunnel signal = record {
+  number = last.count + 1;
+  stamp = stamp;
+  digest = digest_after last.digest (last.count + 1) stamp tunnel signal;
+  tunnel = tunnel;
+  signal = signal;
+}
+
+-- a signal at the place of its slot, as the next there. A slot without a place sends nothing
+abbrev pub numbered_if : Option (ℕ × ℕ) → ℕ → List Reached → Signal → List AtEnd
+numbered_if None stamp lanes signal = []
+numbered_if (Some place) stamp lanes signal = record {
   end = place.0;
-  item = record { number = count_at counts place.0 + 1; stamp = stamp; tunnel = place.1; signal = signal };
+  item = next_item (reached_at lanes place.0) stamp place.1 signal;
 } ∷ []
 
--- the signals of a turn at the places of their slots, each with the next number there and with the stamp of the turn
-abbrev pub numbered : List (ℕ × ℕ) → ℕ → List ℕ → List (ℕ × Signal) → List AtEnd
-numbered places stamp counts [] = []
-numbered places stamp counts (sending ∷ rest) =
-    let here = numbered_if (slice_get places sending.0) stamp counts sending.1 in
-    here ++ numbered places stamp (raised_all counts here) rest
+-- the signals of a turn at the places of their slots, each as the next there and with the stamp of the turn
+abbrev pub numbered : List (ℕ × ℕ) → ℕ → List Reached → List (ℕ × Signal) → List AtEnd
+numbered places stamp lanes [] = []
+numbered places stamp lanes (sending ∷ rest) =
+    let here = numbered_if (slice_get places sending.0) stamp lanes sending.1 in
+    here ++ numbered places stamp (raised_all lanes here) rest
 
 -- ---- entries
 

@@ -5,12 +5,13 @@ use mc_lane::Lane;
 use mc_signal::Signal;
 use std::marker::Model;
 
-/// A signal in its lane: how many signals were sent up to it, itself counted; the stamp of the turn that sent it; and
-/// its tunnel.
+/// A signal in its lane: how many signals were sent up to it, itself counted; the stamp of the turn that sent it; a
+/// digest of all of them; and its tunnel.
 #[derive(Clone, Copy, PartialEq, Eq, Debug)]
 pub struct Numbered {
     pub number: u64,
     pub stamp: u64,
+    pub digest: u64,
     pub tunnel: u8,
     pub signal: Signal,
 }

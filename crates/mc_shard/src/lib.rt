@@ -2,17 +2,20 @@
 #![tactic(auto)]
 
 mod acting;
+mod digest;
 mod entry;
 mod laid;
 pub mod limit;
 mod numbering;
 mod parts;
 mod places;
+mod reached;
 mod refused;
 mod replaying;
 mod shard;
 mod taking;
 
+pub use digest::medium_code;
 pub use entry::{AtEnd, Entry, Numbered};
 pub use laid::are_laid;
 pub use places::SlotPlaces;

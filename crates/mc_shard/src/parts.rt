@@ -4,18 +4,19 @@ ghost use Rattle.std.specs.Prelude.{◌≡◌, length, IfOk};
 ghost use Rattle.mc_shard.specs.Shards.{AreLaid, IsShaped, first_state, shard_of};
 
 use crate::places::SlotPlaces;
+use crate::reached::Reached;
 use mc_box::MediaBox;
 use std::alloc::{AllocError, Global};
 
-/// Boxes, with the places of their slots; for each channel end its box, and how many signals were sent and taken there;
-/// and the stamp of the last turn.
+/// Boxes, with the places of their slots; for each channel end its box, and how far its lanes are, by what was sent and
+/// taken there; and the stamp of the last turn.
 #[derive(Drop)]
 pub struct ShardParts {
     pub boxes: Vec<MediaBox>,
     pub places: Vec<SlotPlaces>,
     pub owners: Vec<u32>,
-    pub sent: Vec<u64>,
-    pub taken: Vec<u64>,
+    pub sent: Vec<Reached>,
+    pub taken: Vec<Reached>,
     pub stamp: u64,
 }
 
@@ -35,8 +36,12 @@ impl ShardParts {
           state = first_state boxes.items (length owners.items);
         }) }
     {
-        let sent = vec![in alloc; 0; owners.len()]?;
-        let taken = vec![in alloc; 0; owners.len()]?;
+        let none = Reached {
+            count: 0,
+            digest: 0,
+        };
+        let sent = vec![in alloc; none; owners.len()]?;
+        let taken = vec![in alloc; none; owners.len()]?;
         Ok(ShardParts {
             boxes,
             places,

@@ -17,6 +17,9 @@ pub enum Refused {
     Unlawful,
     /// It isn't the next of its lane, but a later one.
     Ahead,
+    /// It is the next of its lane by its number, but its digest doesn't go on from that of the last that was taken: its
+    /// sender lost a part of its journal.
+    Digest,
     /// There is no stamp above those that the turn's has to be above.
     Stamp,
     /// It isn't the entry that the boxes make.

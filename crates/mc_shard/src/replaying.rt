@@ -1,15 +1,16 @@
 // Entries of the own journal, made again.
 
-ghost use Rattle.std.specs.Prelude.{◌≡◌, ◌≢◌, ◌+◌, ◌<◌, ◌≤◌, length, IfErr, IfOk, MatchBool, OnOk, Some};
+ghost use Rattle.std.specs.Prelude.{◌≡◌, ◌≢◌, ◌<◌, ◌≤◌, length, IfErr, IfOk, MatchBool, OnOk, Some};
 ghost use Rattle.mc_shard.specs.Refusals.{IsAt, RefusesAt, RefusesEntry};
 ghost use Rattle.mc_shard.specs.Shards.{IsOf, IsMade, IsShaped, shard_of};
-ghost use Rattle.mc_shard.specs.States.{IsJournal, count_at, state_after};
+ghost use Rattle.mc_shard.specs.States.{IsJournal, IsNext, reached_at, state_after};
 ghost use Rattle.mc_shard.specs.declared.limit.TheConstants.{LAST_STAMP};
 
 use crate::acting::is_take;
 use crate::entry::{AtEnd, Entry};
 use crate::limit::LAST_STAMP;
 use crate::parts::ShardParts;
+use crate::reached::{follows, reached_at};
 use crate::refused::{Refused, ReplayRefused};
 use mc_box::Event;
 use mc_lane::Lane;
@@ -59,11 +60,11 @@ impl ShardParts {
     fn is_next(&self, at: AtEnd) -> bool
         requires shaped { IsShaped (shard_of self.now) }
         requires there { at.end < length self.now.taken.items }
-        ensures { MatchBool result (at.item.number ≡ count_at self.now.taken.items at.end + 1)
-            (at.item.number ≢ count_at self.now.taken.items at.end + 1) }
+        ensures { MatchBool result (IsNext (reached_at self.now.taken.items at.end) at.item)
+            (IsNext (reached_at self.now.taken.items at.end) at.item → ⊥) }
     {
-        let had = self.taken[at.end as usize];
-        at.item.number == had + 1
+        let had = reached_at(&self.taken, at.end);
+        at.item.number == had.count + 1 && follows(had.digest, &at.item)
     }
 
     // The entry that the boxes make where another one takes a signal, with its stamp.

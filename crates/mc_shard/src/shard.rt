@@ -93,8 +93,9 @@ impl Shard {
         self.parts.request(alloc, who, event, known)
     }
 
-    /// A signal that arrives at a channel end: the entry that takes it, where it is the next of its lane. One that was
-    /// taken already changes nothing, and one that comes too early is refused until it is its turn.
+    /// A signal that arrives at a channel end: the entry that takes it, where it is the next of its lane, by its number
+    /// and its digest. One that was taken already changes nothing, and one that comes too early is refused until it is
+    /// its turn. `Refused::Digest` says that its sender lost signals that were taken here, and sent others.
     pub fn arrive(&mut self, alloc: Global, at: AtEnd) -> Result<Option<Entry>, Refused>
         ensures took { IfOk result (λ made. MatchOption made
             ((self.new ≡ self.old) × (at.item.number ≤ count_at self.old.state.taken at.end))

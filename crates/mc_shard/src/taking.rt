@@ -1,11 +1,11 @@
 // Turns that take a signal.
 
-ghost use Rattle.std.specs.Prelude.{◌≡◌, ◌≢◌, ◌+◌, ◌<◌, ◌≤◌, ℕ, [], length, IsTrue, IsFalse, IfErr, IfNone, IfOk, IfSome, IsSome, MatchOption, OnErr, OnOk, Ok, Some, None};
+ghost use Rattle.std.specs.Prelude.{◌≡◌, ◌<◌, ◌≤◌, [], length, IsTrue, IsFalse, IfErr, IfNone, IfOk, IfSome, IsSome, MatchOption, OnErr, Ok, Some, None};
 ghost use Rattle.mc_box.specs.BoxEvents.{box_event};
 ghost use Rattle.mc_box.specs.Boxes.{slot_at};
 ghost use Rattle.mc_shard.specs.Refusals.{HasNoSlot, HindersSlot, HindersTake, IsAt};
 ghost use Rattle.mc_shard.specs.Shards.{IsOf, IsMade, IsShaped, IsTaking, shard_of, stamp_above};
-ghost use Rattle.mc_shard.specs.States.{count_at};
+ghost use Rattle.mc_shard.specs.States.{IsNext, count_at, reached_at};
 ghost use Rattle.mc_shard.specs.declared.limit.TheConstants.{LAST_STAMP, SENT_LIMIT};
 ghost use Rattle.mc_slot.specs.Moves.{slot_take};
 
@@ -14,6 +14,7 @@ use crate::entry::{AtEnd, Entry};
 use crate::limit::LAST_STAMP;
 use crate::numbering::number_all;
 use crate::parts::ShardParts;
+use crate::reached::{Reached, follows, reached_at};
 use crate::refused::Refused;
 use mc_box::{Event, MediaBox};
 use mc_lane::Lane;
@@ -61,7 +62,7 @@ impl ShardParts {
         requires shaped { IsShaped (shard_of self.old) }
         requires here { who < length self.old.boxes.items }
         requires place { IsAt (shard_of self.old) who slot at }
-        requires next { at.item.number ≡ count_at self.old.taken.items at.end + 1 }
+        requires next { IsNext (reached_at self.old.taken.items at.end) at.item }
         requires above { at.item.stamp < stamp }
         requires rises { self.old.stamp < stamp }
         requires fits { stamp ≤ LAST_STAMP }
@@ -91,7 +92,10 @@ impl ShardParts {
             &mut sendings,
             &mut sent,
         );
-        self.taken[at.end as usize] = at.item.number;
+        self.taken[at.end as usize] = Reached {
+            count: at.item.number,
+            digest: at.item.digest,
+        };
         self.stamp = stamp;
         Ok(Entry {
             who,
@@ -121,11 +125,11 @@ impl ShardParts {
     }
 
     // A signal that wasn't taken yet.
-    fn take_next(&mut self, alloc: Global, at: AtEnd, had: u64) -> Result<Entry, Refused>
+    fn take_next(&mut self, alloc: Global, at: AtEnd, had: Reached) -> Result<Entry, Refused>
         requires shaped { IsShaped (shard_of self.old) }
         requires there { at.end < length self.old.taken.items }
-        requires had_is { had ≡ count_at self.old.taken.items at.end }
-        requires new { had < at.item.number }
+        requires had_is { had ≡ reached_at self.old.taken.items at.end }
+        requires new { had.count < at.item.number }
         ensures shaped { IsShaped (shard_of self.new) }
         ensures made { IfOk result (λ entry. IsMade (shard_of self.old) (shard_of self.new) entry
             × IsTaking entry at (stamp_above (shard_of self.old) at.item.stamp)) }
@@ -133,8 +137,11 @@ impl ShardParts {
         ensures same { OnErr result (shard_of self.new ≡ shard_of self.old) }
         ensures why { IfErr result (λ why. HindersTake why (shard_of self.old) at) }
     {
-        if at.item.number - had > 1 {
+        if at.item.number - had.count > 1 {
             return Err(Refused::Ahead);
+        }
+        if !follows(had.digest, &at.item) {
+            return Err(Refused::Digest);
         }
         let before = self.stamp.max(at.item.stamp);
         if before >= LAST_STAMP {
@@ -163,8 +170,8 @@ impl ShardParts {
         if at.end as usize >= self.taken.len() {
             return Err(Refused::NoEnd);
         }
-        let had = self.taken[at.end as usize];
-        if at.item.number <= had {
+        let had = reached_at(&self.taken, at.end);
+        if at.item.number <= had.count {
             return Ok(None);
         }
         match self.take_next(alloc, at, had) {

@@ -21,10 +21,11 @@ use Rattle.mc_port.specs.Ends.{with_stamp}
 use Rattle.mc_port.specs.declared.stamped.Stamped.{Stamped}
 use Rattle.mc_shard.specs.Journals.{EntryState, items_at, sent_at, taken_at, taken_list}
 use Rattle.mc_shard_laws.specs.Logs.{own_of, owns, stamped, tagged, tagged_in}
-use Rattle.mc_shard.specs.States.{FitsPlaces, IsAbove, IsJournal, MayFollow, Places, ShardState, after_entry, box_in, numbered, numbered_if, places_of, raised_all, signal_of, state_after, step_in}
+use Rattle.mc_shard.specs.States.{FitsPlaces, IsAbove, IsJournal, MayFollow, Places, ShardState, after_entry, box_in, next_item, none_reached, numbered, numbered_if, places_of, raised_all, signal_of, state_after, step_in}
 use Rattle.mc_shard_laws.specs.Together.{HasEnd, end_tunnels}
 use Rattle.mc_shard.specs.declared.entry.AtEnd.{AtEnd}
 use Rattle.mc_shard.specs.declared.entry.Numbered.{Numbered}
+use Rattle.mc_shard.specs.declared.reached.Reached.{Reached}
 use Rattle.mc_shard_laws.proofs.Lanes.{chosen, items_append, items_away, other_test, passed, same_test}
 
 -- ---- the log of one box
@@ -115,35 +116,35 @@ sent_choice : (test : Bool) (tunnel stamp : ℕ) (signal : Signal) → sent_if (
 sent_choice true tunnel stamp signal = refl
 sent_choice false tunnel stamp signal = refl
 
-send_if : (o : Option (ℕ × ℕ)) (end stamp : ℕ) (counts : List ℕ) (signal : Signal) → sent_if (tunnel_if_at end o) stamp signal ≡ map stamped (items_at end (numbered_if o stamp counts signal))
-send_if None end stamp counts signal = refl
-send_if (Some place) end stamp counts signal =
+send_if : (o : Option (ℕ × ℕ)) (end stamp : ℕ) (lanes : List Reached) (signal : Signal) → sent_if (tunnel_if_at end o) stamp signal ≡ map stamped (items_at end (numbered_if o stamp lanes signal))
+send_if None end stamp lanes signal = refl
+send_if (Some place) end stamp lanes signal =
     sent_choice (place.0 == end) place.1 stamp signal
-    ∙ sym (stamped_choice (place.0 == end) (record { number = get_or counts place.0 0 + 1; stamp = stamp; tunnel = place.1; signal = signal }))
+    ∙ sym (stamped_choice (place.0 == end) (next_item (get_or lanes place.0 none_reached) stamp place.1 signal))
 
-sends_one : (sent : List (ℕ × Signal)) (slots : List (ℕ × ℕ)) (end stamp : ℕ) (counts : List ℕ) → event_sends (tunnels_at slots end) stamp sent ≡ map stamped (items_at end (numbered slots stamp counts sent))
-sends_one [] slots end stamp counts = refl
-sends_one (sending ∷ sent) slots end stamp counts =
-    let here = numbered_if (slice_get slots sending.0) stamp counts sending.1 in
-    let rest = numbered slots stamp (raised_all counts here) sent in
-    ap (λ (l : List Stamped). l ++ event_sends (tunnels_at slots end) stamp sent) (send_if (slice_get slots sending.0) end stamp counts sending.1)
-    ∙ (ap (λ (l : List Stamped). map stamped (items_at end here) ++ l) (sends_one sent slots end stamp (raised_all counts here))
+sends_one : (sent : List (ℕ × Signal)) (slots : List (ℕ × ℕ)) (end stamp : ℕ) (lanes : List Reached) → event_sends (tunnels_at slots end) stamp sent ≡ map stamped (items_at end (numbered slots stamp lanes sent))
+sends_one [] slots end stamp lanes = refl
+sends_one (sending ∷ sent) slots end stamp lanes =
+    let here = numbered_if (slice_get slots sending.0) stamp lanes sending.1 in
+    let rest = numbered slots stamp (raised_all lanes here) sent in
+    ap (λ (l : List Stamped). l ++ event_sends (tunnels_at slots end) stamp sent) (send_if (slice_get slots sending.0) end stamp lanes sending.1)
+    ∙ (ap (λ (l : List Stamped). map stamped (items_at end here) ++ l) (sends_one sent slots end stamp (raised_all lanes here))
     ∙ (sym (map-append stamped (items_at end here) (items_at end rest)) ∙ ap (λ (l : List Numbered). map stamped l) (sym (items_append end here rest))))
 
-no_send_if : (o : Option (ℕ × ℕ)) (end stamp : ℕ) (counts : List ℕ) (signal : Signal) → ((tunnel : ℕ) → o ≡ Some (end, tunnel) → ⊥) → items_at end (numbered_if o stamp counts signal) ≡ []
-no_send_if None end stamp counts signal none = refl
-no_send_if (Some place) end stamp counts signal none =
-    items_away end (record { end = place.0; item = record { number = get_or counts place.0 0 + 1; stamp = stamp; tunnel = place.1; signal = signal } }) []
+no_send_if : (o : Option (ℕ × ℕ)) (end stamp : ℕ) (lanes : List Reached) (signal : Signal) → ((tunnel : ℕ) → o ≡ Some (end, tunnel) → ⊥) → items_at end (numbered_if o stamp lanes signal) ≡ []
+no_send_if None end stamp lanes signal none = refl
+no_send_if (Some place) end stamp lanes signal none =
+    items_away end (record { end = place.0; item = next_item (get_or lanes place.0 none_reached) stamp place.1 signal }) []
     (λ same. none place.1 (ap (λ (e : ℕ). Some (e, place.1)) same))
 
-no_sends : (sent : List (ℕ × Signal)) (slots : List (ℕ × ℕ)) (end stamp : ℕ) (counts : List ℕ) → ((local tunnel : ℕ) → slice_get slots local ≡ Some (end, tunnel) → ⊥) → items_at end (numbered slots stamp counts sent) ≡ []
-no_sends [] slots end stamp counts none = refl
-no_sends (sending ∷ sent) slots end stamp counts none =
-    let here = numbered_if (slice_get slots sending.0) stamp counts sending.1 in
-    let rest = numbered slots stamp (raised_all counts here) sent in
+no_sends : (sent : List (ℕ × Signal)) (slots : List (ℕ × ℕ)) (end stamp : ℕ) (lanes : List Reached) → ((local tunnel : ℕ) → slice_get slots local ≡ Some (end, tunnel) → ⊥) → items_at end (numbered slots stamp lanes sent) ≡ []
+no_sends [] slots end stamp lanes none = refl
+no_sends (sending ∷ sent) slots end stamp lanes none =
+    let here = numbered_if (slice_get slots sending.0) stamp lanes sending.1 in
+    let rest = numbered slots stamp (raised_all lanes here) sent in
     items_append end here rest
-    ∙ (ap (λ (l : List Numbered). l ++ items_at end rest) (no_send_if (slice_get slots sending.0) end stamp counts sending.1 (none sending.0))
-    ∙ no_sends sent slots end stamp (raised_all counts here) none)
+    ∙ (ap (λ (l : List Numbered). l ++ items_at end rest) (no_send_if (slice_get slots sending.0) end stamp lanes sending.1 (none sending.0))
+    ∙ no_sends sent slots end stamp (raised_all lanes here) none)
 
 pub journal_sends : (entries : List EntryState) (places : Places) (a : ShardState) (who end : ℕ) → HasEnd places end who → IsJournal places a entries
     → log_sends (end_tunnels places who end) (own_log who (owns a entries)) ≡ map stamped (sent_at end entries)

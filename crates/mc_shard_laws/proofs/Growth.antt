@@ -9,6 +9,7 @@ use Rattle.mc_shard.specs.States.{IsAbove, IsJournal, MayFollow, Places, ShardSt
 use Rattle.mc_shard_laws.specs.Together.{Journalled, TakenFromCut}
 use Rattle.mc_shard.specs.declared.entry.AtEnd.{AtEnd}
 use Rattle.mc_shard.specs.declared.entry.Numbered.{Numbered}
+use Rattle.mc_shard.specs.declared.reached.Reached.{Reached}
 use Rattle.mc_shard_laws.proofs.Lanes.{items_away, items_here, number_above, taken_numbered, taken_is_front}
 
 pub journals_grow : JournalsGrow
@@ -30,16 +31,16 @@ record Fine (entry : EntryState) : Type 0 where
   above : IsAbove entry.taken entry.stamp
   stamps : AllByRecursion (λ (one : AtEnd). one.item.stamp ≡ entry.stamp) entry.sent
 
-stamps_if : (o : Option (ℕ × ℕ)) (stamp : ℕ) (counts : List ℕ) (signal : Signal) (rest : List AtEnd) → AllByRecursion (λ (one : AtEnd). one.item.stamp ≡ stamp) rest
-    → AllByRecursion (λ (one : AtEnd). one.item.stamp ≡ stamp) (numbered_if o stamp counts signal ++ rest)
-stamps_if None stamp counts signal rest all = all
-stamps_if (Some place) stamp counts signal rest all = (refl, all)
+stamps_if : (o : Option (ℕ × ℕ)) (stamp : ℕ) (lanes : List Reached) (signal : Signal) (rest : List AtEnd) → AllByRecursion (λ (one : AtEnd). one.item.stamp ≡ stamp) rest
+    → AllByRecursion (λ (one : AtEnd). one.item.stamp ≡ stamp) (numbered_if o stamp lanes signal ++ rest)
+stamps_if None stamp lanes signal rest all = all
+stamps_if (Some place) stamp lanes signal rest all = (refl, all)
 
-numbered_stamps : (sent : List (ℕ × Signal)) (places : List (ℕ × ℕ)) (stamp : ℕ) (counts : List ℕ) → AllByRecursion (λ (one : AtEnd). one.item.stamp ≡ stamp) (numbered places stamp counts sent)
-numbered_stamps [] places stamp counts = tt
-numbered_stamps (sending ∷ sent) places stamp counts =
-    let here = numbered_if (slice_get places sending.0) stamp counts sending.1 in
-    stamps_if (slice_get places sending.0) stamp counts sending.1 (numbered places stamp (raised_all counts here) sent) (numbered_stamps sent places stamp (raised_all counts here))
+numbered_stamps : (sent : List (ℕ × Signal)) (places : List (ℕ × ℕ)) (stamp : ℕ) (lanes : List Reached) → AllByRecursion (λ (one : AtEnd). one.item.stamp ≡ stamp) (numbered places stamp lanes sent)
+numbered_stamps [] places stamp lanes = tt
+numbered_stamps (sending ∷ sent) places stamp lanes =
+    let here = numbered_if (slice_get places sending.0) stamp lanes sending.1 in
+    stamps_if (slice_get places sending.0) stamp lanes sending.1 (numbered places stamp (raised_all lanes here) sent) (numbered_stamps sent places stamp (raised_all lanes here))
 
 fine : (places : Places) (a : ShardState) (entry : EntryState) → MayFollow places a entry → Fine entry
 fine places a entry follows = record {

@@ -6,11 +6,12 @@ use Rattle.std.proofs.lemmas.Grind.{common_steps}
 use Rattle.std.proofs.lemmas.List.{get_or-set_same, get_or-set_other}
 use Rattle.mc_signal.specs.declared.Signal.{Signal}
 use Rattle.mc_shard.specs.Journals.{AreAllAmong, AreNumbered, IsAmong, EntryState, items_at, sent_at, taken_at, taken_list}
-use Rattle.mc_shard.specs.States.{AreNext, IsJournal, MayFollow, Places, ShardState, after_entry, count_at, numbered, numbered_if, places_of, raised, raised_all, step_in}
+use Rattle.mc_shard.specs.States.{AreNext, IsJournal, MayFollow, Places, ShardState, after_entry, count_at, none_reached, numbered, numbered_if, places_of, raised, raised_all, reached_at, step_in}
 use Rattle.mc_shard_laws.specs.Together.{TakenIsFront}
 use Rattle.mc_shard.proofs.Counts.{all_length, raised_length}
 use Rattle.mc_shard.specs.declared.entry.AtEnd.{AtEnd}
 use Rattle.mc_shard.specs.declared.entry.Numbered.{Numbered}
+use Rattle.mc_shard.specs.declared.reached.Reached.{Reached}
 
 -- ---- a front
 
@@ -78,28 +79,34 @@ items_append end (one ∷ xs) ys =
     ap (λ (l : List Numbered). (if one.end == end then one.item ∷ [] else []) ++ l) (items_append end xs ys)
     ∙ sym (append_assoc (if one.end == end then one.item ∷ [] else []) (items_at end xs) (items_at end ys))
 
-raised_here : (counts : List ℕ) (end : ℕ) → end < length counts → count_at (raised counts end) end ≡ count_at counts end + 1
-raised_here counts end inside = get_or-set_same counts end (count_at counts end + 1) 0 inside
+-- how far a lane is after this signal
+abbrev pub with_one : Reached → AtEnd → Reached
+with_one last one = record { count = last.count + 1; digest = one.item.digest }
 
-raised_away : (counts : List ℕ) (end other : ℕ) → other ≢ end → count_at (raised counts other) end ≡ count_at counts end
-raised_away counts end other apart = get_or-set_other counts other end (count_at counts other + 1) 0 (λ same. apart (sym same))
+pub raised_here : (lanes : List Reached) (end : ℕ) (one : AtEnd) → one.end ≡ end → end < length lanes → reached_at (raised lanes one) end ≡ with_one (reached_at lanes end) one
+raised_here lanes end one same =
+    subst (λ (e : ℕ). e < length lanes → reached_at (raised lanes one) e ≡ with_one (reached_at lanes e) one) same
+    (λ inside. get_or-set_same lanes one.end (with_one (reached_at lanes one.end) one) none_reached inside)
 
-inside_raised : (counts : List ℕ) (end other : ℕ) → end < length counts → end < length (raised counts other)
-inside_raised counts end other inside =
-    let same : length (raised counts other) ≡ length counts = raised_length counts other in
+pub raised_away : (lanes : List Reached) (end : ℕ) (one : AtEnd) → one.end ≢ end → reached_at (raised lanes one) end ≡ reached_at lanes end
+raised_away lanes end one apart = get_or-set_other lanes one.end end (with_one (reached_at lanes one.end) one) none_reached (λ same. apart (sym same))
+
+pub inside_raised : (lanes : List Reached) (end : ℕ) (one : AtEnd) → end < length lanes → end < length (raised lanes one)
+inside_raised lanes end one inside =
+    let same : length (raised lanes one) ≡ length lanes = raised_length lanes one in
     omega arith
 
-pub count_all : (xs : List AtEnd) (counts : List ℕ) (end : ℕ) → end < length counts → count_at (raised_all counts xs) end ≡ count_at counts end + length (items_at end xs)
-count_all [] counts end inside = omega arith
-count_all (one ∷ xs) counts end inside =
-    let rest : count_at (raised_all (raised counts one.end) xs) end ≡ count_at (raised counts one.end) end + length (items_at end xs) = count_all xs (raised counts one.end) end (inside_raised counts end one.end inside) in
+pub count_all : (xs : List AtEnd) (lanes : List Reached) (end : ℕ) → end < length lanes → count_at (raised_all lanes xs) end ≡ count_at lanes end + length (items_at end xs)
+count_all [] lanes end inside = omega arith
+count_all (one ∷ xs) lanes end inside =
+    let rest : count_at (raised_all (raised lanes one) xs) end ≡ count_at (raised lanes one) end + length (items_at end xs) = count_all xs (raised lanes one) end (inside_raised lanes end one inside) in
     elim (cases_eq one.end end) [
       | inl same ↦
-          let up : count_at (raised counts one.end) end ≡ count_at counts end + 1 = subst (λ (e : ℕ). count_at (raised counts e) end ≡ count_at counts end + 1) (sym same) (raised_here counts end inside) in
+          let up : count_at (raised lanes one) end ≡ count_at lanes end + 1 = ap (λ (r : Reached). r.count) (raised_here lanes end one same inside) in
           let long : length (items_at end (one ∷ xs)) ≡ suc (length (items_at end xs)) = ap (λ (l : List Numbered). length l) (items_here end one xs same) in
           omega arith
       | inr apart ↦
-          let stays : count_at (raised counts one.end) end ≡ count_at counts end = raised_away counts end one.end apart in
+          let stays : count_at (raised lanes one) end ≡ count_at lanes end = ap (λ (r : Reached). r.count) (raised_away lanes end one apart) in
           let long : length (items_at end (one ∷ xs)) ≡ length (items_at end xs) = ap (λ (l : List Numbered). length l) (items_away end one xs apart) in
           omega arith
     ]
@@ -115,42 +122,42 @@ numbered_append last middle (x ∷ xs) ys are is are_2 =
     let long : length (x ∷ xs) ≡ suc (length xs) = refl in
     (are.0, numbered_append x.number middle xs ys are.1 (omega arith) are_2)
 
-next_numbered : (xs : List AtEnd) (counts : List ℕ) (end : ℕ) → end < length counts → AreNext counts xs → AreNumbered (count_at counts end) (items_at end xs)
-next_numbered [] counts end inside next = tt
-next_numbered (one ∷ xs) counts end inside next =
-    let rest : AreNumbered (count_at (raised counts one.end) end) (items_at end xs) = next_numbered xs (raised counts one.end) end (inside_raised counts end one.end inside) next.1 in
-    let is : one.item.number ≡ count_at counts one.end + 1 = next.0 in
+next_numbered : (xs : List AtEnd) (lanes : List Reached) (end : ℕ) → end < length lanes → AreNext lanes xs → AreNumbered (count_at lanes end) (items_at end xs)
+next_numbered [] lanes end inside next = tt
+next_numbered (one ∷ xs) lanes end inside next =
+    let rest : AreNumbered (count_at (raised lanes one) end) (items_at end xs) = next_numbered xs (raised lanes one) end (inside_raised lanes end one inside) next.1 in
+    let is : one.item.number ≡ count_at lanes one.end + 1 = next.0.number in
     elim (cases_eq one.end end) [
       | inl same ↦
-          let up : count_at (raised counts one.end) end ≡ count_at counts end + 1 = subst (λ (e : ℕ). count_at (raised counts e) end ≡ count_at counts end + 1) (sym same) (raised_here counts end inside) in
-          let here : one.item.number ≡ count_at counts end + 1 = is ∙ ap (λ (e : ℕ). count_at counts e + 1) same in
-          subst (λ (l : List Numbered). AreNumbered (count_at counts end) l) (sym (items_here end one xs same))
+          let up : count_at (raised lanes one) end ≡ count_at lanes end + 1 = ap (λ (r : Reached). r.count) (raised_here lanes end one same inside) in
+          let here : one.item.number ≡ count_at lanes end + 1 = is ∙ ap (λ (e : ℕ). count_at lanes e + 1) same in
+          subst (λ (l : List Numbered). AreNumbered (count_at lanes end) l) (sym (items_here end one xs same))
           (here, subst (λ (n : ℕ). AreNumbered n (items_at end xs)) (up ∙ sym here) rest)
       | inr apart ↦
-          subst (λ (l : List Numbered). AreNumbered (count_at counts end) l) (sym (items_away end one xs apart))
-          (subst (λ (n : ℕ). AreNumbered n (items_at end xs)) (raised_away counts end one.end apart) rest)
+          subst (λ (l : List Numbered). AreNumbered (count_at lanes end) l) (sym (items_away end one xs apart))
+          (subst (λ (n : ℕ). AreNumbered n (items_at end xs)) (ap (λ (r : Reached). r.count) (raised_away lanes end one apart)) rest)
     ]
 
-next_if : (o : Option (ℕ × ℕ)) (stamp : ℕ) (counts : List ℕ) (signal : Signal) (rest : List AtEnd) → AreNext (raised_all counts (numbered_if o stamp counts signal)) rest → AreNext counts (numbered_if o stamp counts signal ++ rest)
-next_if None stamp counts signal rest next = next
-next_if (Some place) stamp counts signal rest next = (refl, next)
+next_if : (o : Option (ℕ × ℕ)) (stamp : ℕ) (lanes : List Reached) (signal : Signal) (rest : List AtEnd) → AreNext (raised_all lanes (numbered_if o stamp lanes signal)) rest → AreNext lanes (numbered_if o stamp lanes signal ++ rest)
+next_if None stamp lanes signal rest next = next
+next_if (Some place) stamp lanes signal rest next = (record { number = refl; digest = refl }, next)
 
-pub numbered_next : (sent : List (ℕ × Signal)) (places : List (ℕ × ℕ)) (stamp : ℕ) (counts : List ℕ) → AreNext counts (numbered places stamp counts sent)
-numbered_next [] places stamp counts = tt
-numbered_next (sending ∷ sent) places stamp counts =
-    let here = numbered_if (slice_get places sending.0) stamp counts sending.1 in
-    next_if (slice_get places sending.0) stamp counts sending.1 (numbered places stamp (raised_all counts here) sent)
-    (numbered_next sent places stamp (raised_all counts here))
+pub numbered_next : (sent : List (ℕ × Signal)) (places : List (ℕ × ℕ)) (stamp : ℕ) (lanes : List Reached) → AreNext lanes (numbered places stamp lanes sent)
+numbered_next [] places stamp lanes = tt
+numbered_next (sending ∷ sent) places stamp lanes =
+    let here = numbered_if (slice_get places sending.0) stamp lanes sending.1 in
+    next_if (slice_get places sending.0) stamp lanes sending.1 (numbered places stamp (raised_all lanes here) sent)
+    (numbered_next sent places stamp (raised_all lanes here))
 
 -- ---- journals
 
-sends_next : (places : Places) (a : ShardState) (entry : EntryState) → MayFollow places a entry → AreNext a.sent entry.sent
+pub sends_next : (places : Places) (a : ShardState) (entry : EntryState) → MayFollow places a entry → AreNext a.sent entry.sent
 sends_next places a entry follows =
     subst (λ (l : List AtEnd). AreNext a.sent l) (sym follows.sent) (numbered_next (step_in a entry).sent (places_of places entry.who) entry.stamp a.sent)
 
-inside_all : (counts : List ℕ) (xs : List AtEnd) (end : ℕ) → end < length counts → end < length (raised_all counts xs)
-inside_all counts xs end inside =
-    let same : length (raised_all counts xs) ≡ length counts = all_length xs counts in
+pub inside_all : (lanes : List Reached) (xs : List AtEnd) (end : ℕ) → end < length lanes → end < length (raised_all lanes xs)
+inside_all lanes xs end inside =
+    let same : length (raised_all lanes xs) ≡ length lanes = all_length xs lanes in
     omega arith
 
 pub sent_numbered : (entries : List EntryState) (places : Places) (a : ShardState) (end : ℕ) → end < length a.sent → IsJournal places a entries → AreNumbered (count_at a.sent end) (sent_at end entries)

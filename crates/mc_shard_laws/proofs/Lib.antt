@@ -3,6 +3,7 @@ pub mod Lanes
 pub mod Entries
 pub mod Together
 pub mod Growth
+pub mod Digests
 pub mod Merged
 pub mod Worked
 pub mod Sound

@@ -14,7 +14,7 @@ use Rattle.mc_merge.specs.Together.{Homes}
 use Rattle.mc_shard.specs.Journals.{EntryState, sent_at, taken_at}
 use Rattle.mc_shard_laws.specs.Logs.{tagged}
 use Rattle.mc_shard_laws.specs.Merged.{AreNamed, entries_in, merged_journals}
-use Rattle.mc_shard.specs.States.{Places, ShardState, after_entry, box_in, numbered, places_of, step_in}
+use Rattle.mc_shard.specs.States.{Places, ShardState, after_entry, box_in, none_reached, numbered, places_of, step_in}
 use Rattle.mc_shard_laws.specs.Together.{AreShardsOf, Journalled, state_of, under_way}
 use Rattle.mc_shard.specs.declared.entry.AtEnd.{AtEnd}
 
@@ -23,7 +23,7 @@ abbrev pub one_place : Places
 one_place = ((0, 0) ∷ []) ∷ []
 
 abbrev pub one_box : ℕ → ShardState
-one_box who = record { boxes = box_at two_phones who ∷ []; stamp = 0; sent = 0 ∷ []; taken = 0 ∷ [] }
+one_box who = record { boxes = box_at two_phones who ∷ []; stamp = 0; sent = none_reached ∷ []; taken = none_reached ∷ [] }
 
 -- the entry that the box makes of an event
 abbrev pub entry_of : ShardState → ℕ → Event → Option AtEnd → EntryState

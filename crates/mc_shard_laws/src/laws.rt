@@ -1,5 +1,6 @@
 //! Laws of shards, over the definitions alone: each function's contract is the law's sentence.
 
+ghost use Rattle.mc_shard_laws.specs.Digests.{NextIsChained, SentIsChained};
 ghost use Rattle.mc_shard_laws.specs.Growth.{JournalsGrow, JournalsSplit, QuietStays};
 ghost use Rattle.mc_shard_laws.specs.Merged.{MergedRun};
 ghost use Rattle.mc_shard_laws.specs.Sound.{NextIsLawful, ShardsKeepSound};
@@ -64,4 +65,14 @@ pub fn shards_keep_sound()
 /// And the next signal of each lane may be taken by the box at its end, as the shards have it.
 pub fn next_is_lawful()
     ensures { NextIsLawful }
+{}
+
+/// The digests of all that a journal sends at an end go on from one to the next.
+pub fn sent_is_chained()
+    ensures { SentIsChained }
+{}
+
+/// So the next signal of a lane is never refused for its digest by a shard that took what the sender's journal says.
+pub fn next_is_chained()
+    ensures { NextIsChained }
 {}

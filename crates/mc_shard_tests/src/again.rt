@@ -77,19 +77,19 @@ fn entries_of_a_call_are_read_again(rt: HostRuntime) -> Result<(), TestFault> {
 
 // A byte of alice's first entry by its place, and what it can't be.
 const BROKEN: [(usize, u8); 13] = [
-    (0, 2), // another version of the form
+    (0, 1), // another version of the form
     (13, 8), // no event
     (15, 3), // a fourth goal
     (16, 2), // neither 0 nor 1
     (17, 2), // two signals, of which one is there
-    (40, 6), // a seventh kind
-    (40, 1), // an oack of video
-    (41, 2), // a third medium
-    (56, 9), // nine codecs
-    (56, 0), // a codec of none
-    (56, 3), // codec 0 twice
-    (57, 64), // codec 64
-    (58, 8), // a codec past the last
+    (48, 6), // a seventh kind
+    (48, 1), // an oack of video
+    (49, 2), // a third medium
+    (64, 9), // nine codecs
+    (64, 0), // a codec of none
+    (64, 3), // codec 0 twice
+    (65, 64), // codec 64
+    (66, 8), // a codec past the last
 ];
 
 // With this byte in place of its own the entry isn't read.

@@ -26,21 +26,24 @@ fn has_bytes(rt: &impl Abort, alloc: Global, entry: &Entry, want: &[u8]) -> Resu
 }
 
 /// The bytes of the entry in which alice opens.
-pub const OPENS: [u8; 65] = [
-    1, 0, 0, 0, 0, 1, 0, 0, 0, 0, 0, 0, 0, // the form, the box, the stamp
+pub const OPENS: [u8; 73] = [
+    2, 0, 0, 0, 0, 1, 0, 0, 0, 0, 0, 0, 0, // the form, the box, the stamp
     1, 0, 0, 0, // slot 0 gets the goal open; nothing is taken
     1, 0, // one signal is sent:
-    0, 0, 0, 0, 1, 0, 0, 0, 0, 0, 0, 0, 1, 0, 0, 0, 0, 0, 0, 0, 2, // end, number, stamp, tunnel
+    0, 0, 0, 0, 1, 0, 0, 0, 0, 0, 0, 0, 1, 0, 0, 0, 0, 0, 0, 0, // end, number, stamp
+    191, 121, 5, 108, 242, 21, 252, 240, 2, // digest, tunnel
     0, 1, 0, 0, 0, 0, 1, 0, 0, 0, 1, 0, 0, 0, 0x88, 0x13, 1, 9, 0, 0, 0, 0, 0, 0, 0, // an open for video
 ];
 
-const TAKES: [u8; 111] = [
-    1, 0, 0, 0, 0, 9, 0, 0, 0, 0, 0, 0, 0, // the form, the box, the stamp
+const TAKES: [u8; 127] = [
+    2, 0, 0, 0, 0, 9, 0, 0, 0, 0, 0, 0, 0, // the form, the box, the stamp
     0, 0, 0, 1, // slot 0 takes
-    0, 0, 0, 0, 1, 0, 0, 0, 0, 0, 0, 0, 8, 0, 0, 0, 0, 0, 0, 0, 2, // end, number, stamp, tunnel
+    0, 0, 0, 0, 1, 0, 0, 0, 0, 0, 0, 0, 8, 0, 0, 0, 0, 0, 0, 0, // end, number, stamp
+    178, 59, 190, 155, 45, 188, 223, 17, 2, // digest, tunnel
     1, 0, 1, 0, 0, 0, 1, 0, 0, 0, 2, 0, 0, 0, 0x88, 0x13, 1, 9, 0, 0, 0, 0, 0, 0, 0, // an oack
     1, 0, // one signal is sent:
-    0, 0, 0, 0, 2, 0, 0, 0, 0, 0, 0, 0, 9, 0, 0, 0, 0, 0, 0, 0, 2, // end, number, stamp, tunnel
+    0, 0, 0, 0, 2, 0, 0, 0, 0, 0, 0, 0, 9, 0, 0, 0, 0, 0, 0, 0, // end, number, stamp
+    62, 155, 79, 43, 119, 230, 104, 243, 2, // digest, tunnel
     5, 0, 1, 0, 0, 0, 1, 0, 0, 0, 1, 0, 0, 0, 0x88, 0x13, 1, 9, 0, 0, 0, 0, 0, 0, 0, // a select
 ];
 
@@ -86,7 +89,7 @@ fn entry(event: Event, taken: Option<AtEnd>, sent: Lane<AtEnd>) -> Entry {
 fn has_event(rt: &impl Abort, alloc: Global, event: Event, code: [u8; 3]) -> Result<(), TestFault> {
     let [kind, first, second] = code;
     let want = [
-        1, 4, 3, 2, 1, 12, 11, 10, 9, 8, 7, 6, 5, // the form, the box, the stamp
+        2, 4, 3, 2, 1, 12, 11, 10, 9, 8, 7, 6, 5, // the form, the box, the stamp
         kind, first, second, 0, 0, 0, // the event; nothing is taken or sent
     ];
     has_bytes(rt, alloc, &entry(event, None, Lane::new(alloc)), &want)
@@ -100,15 +103,18 @@ fn events_have_their_bytes(rt: HostRuntime) -> Result<(), TestFault> {
     Ok(())
 }
 
-const ANSWERS: [u8; 157] = [
-    1, 4, 3, 2, 1, 12, 11, 10, 9, 8, 7, 6, 5, // the form, the box, the stamp
+const ANSWERS: [u8; 181] = [
+    2, 4, 3, 2, 1, 12, 11, 10, 9, 8, 7, 6, 5, // the form, the box, the stamp
     0, 0, 0, 1, // slot 0 takes
-    6, 5, 0, 0, 1, 2, 0, 0, 0, 0, 0, 0, 3, 0, 0, 0, 0, 1, 0, 0, 2, // end, number, stamp, tunnel
+    6, 5, 0, 0, 1, 2, 0, 0, 0, 0, 0, 0, 3, 0, 0, 0, 0, 1, 0, 0, // end, number, stamp
+    1, 2, 3, 4, 5, 6, 7, 8, 2, // digest, tunnel
     2, 0, 0, 0, 0, 0, 0, 0, 0, 0, 0, 0, 0, 0, 0, 0, 0, 0, 0, 0, 0, 0, 0, 0, 0, // a close
     2, 0, // two signals are sent:
-    0, 0, 0, 0, 1, 0, 0, 0, 0, 0, 0, 0, 2, 0, 0, 0, 0, 0, 0, 0, 2, // end, number, stamp, tunnel
+    0, 0, 0, 0, 1, 0, 0, 0, 0, 0, 0, 0, 2, 0, 0, 0, 0, 0, 0, 0, // end, number, stamp
+    0, 0, 0, 0, 0, 0, 0, 0, 2, // digest, tunnel
     3, 0, 0, 0, 0, 0, 0, 0, 0, 0, 0, 0, 0, 0, 0, 0, 0, 0, 0, 0, 0, 0, 0, 0, 0, // a closeack
-    0, 0, 0, 0, 2, 0, 0, 0, 0, 0, 0, 0, 2, 0, 0, 0, 0, 0, 0, 0, 2, // end, number, stamp, tunnel
+    0, 0, 0, 0, 2, 0, 0, 0, 0, 0, 0, 0, 2, 0, 0, 0, 0, 0, 0, 0, // end, number, stamp
+    255, 0, 0, 0, 0, 0, 0, 0, 2, // digest, tunnel
     5, 0, 7, 0, 0, 0, 3, 0, 0, 0, 8, 1, 0, 0, 1, 2, 0, 0, 0, 0, 0, 0, 0, 0, 0, // a select of no codec
 ];
 
@@ -126,11 +132,17 @@ fn mute() -> Selector {
 #[test]
 fn signals_without_media_have_their_bytes(rt: HostRuntime) -> Result<(), TestFault> {
     let alloc = rt.alloc();
-    let taken = at(1286, 513, 0x0100_0000_0003, Signal::Close);
+    let taken = at(
+        1286,
+        513,
+        0x0100_0000_0003,
+        0x0807_0605_0403_0201,
+        Signal::Close,
+    );
     let mut sent = Lane::new(alloc);
     sent.reserve(2)?;
-    sent.push(at(0, 1, 2, Signal::Closeack));
-    sent.push(at(0, 2, 2, Signal::Select(mute())));
+    sent.push(at(0, 1, 2, 0, Signal::Closeack));
+    sent.push(at(0, 2, 2, 255, Signal::Select(mute())));
     let made = entry(Event::Take(0), Some(taken), sent);
     has_bytes(&rt, alloc, &made, &ANSWERS)
 }

@@ -14,21 +14,34 @@ use mc_slot::{Goal, Slot, SlotGoal, State};
 use std::alloc::Global;
 use std::process::Abort;
 
+// The digests of the signals of the call: from 0 or the digest before it, for each of the words number, stamp, tunnel,
+// kind, medium of an open, and fields, exclusive or with it, and then times 0x100_0000_01b3, modulo 2^64.
+const OPEN: u64 = 0xf0fc_15f2_6c05_79bf;
+
+const ACCEPT: u64 = 0x11df_bc2d_9bbe_3bb2;
+
+const BOBS_CHOICE: u64 = 0xfa8b_be96_cc83_ed2a;
+
+const ALICES_CHOICE: u64 = 0xf368_e677_2b4f_9b3e;
+
 /// The signals of the call, at the ends of those who send them.
 pub fn open() -> AtEnd {
-    at(ALICE_END, 1, 1, Signal::Open(Medium::Video, own(ALICE)))
+    let signal = Signal::Open(Medium::Video, own(ALICE));
+    at(ALICE_END, 1, 1, OPEN, signal)
 }
 
 pub fn accept() -> AtEnd {
-    at(BOB_END, 1, 8, Signal::Oack(own(BOB)))
+    at(BOB_END, 1, 8, ACCEPT, Signal::Oack(own(BOB)))
 }
 
 pub fn bobs_choice() -> AtEnd {
-    at(BOB_END, 2, 8, Signal::Select(choice(BOB, ALICE)))
+    let signal = Signal::Select(choice(BOB, ALICE));
+    at(BOB_END, 2, 8, BOBS_CHOICE, signal)
 }
 
 pub fn alices_choice() -> AtEnd {
-    at(ALICE_END, 2, 9, Signal::Select(choice(ALICE, BOB)))
+    let signal = Signal::Select(choice(ALICE, BOB));
+    at(ALICE_END, 2, 9, ALICES_CHOICE, signal)
 }
 
 // A slot's new goal.

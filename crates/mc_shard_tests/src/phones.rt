@@ -144,14 +144,26 @@ pub fn choice(number: u32, other: u32) -> Selector
 }
 
 /// A signal of the call at an end.
-pub fn at(end: u32, number: u64, stamp: u64, signal: Signal) -> AtEnd {
+pub fn at(end: u32, number: u64, stamp: u64, digest: u64, signal: Signal) -> AtEnd {
     let item = Numbered {
         number,
         stamp,
+        digest,
         tunnel: TUNNEL,
         signal,
     };
     AtEnd { end, item }
+}
+
+/// The first signal that an entry of a journal sent.
+pub fn sent_in(journal: &[Entry], index: usize) -> Result<AtEnd, TestFault> {
+    let Some(entry) = journal.get(index) else {
+        return Err(TestFault::Had);
+    };
+    if entry.sent.len() == 0 {
+        return Err(TestFault::Had);
+    }
+    Ok(entry.sent.get(0))
 }
 
 /// What was sent at the far end arrives at this one.

@@ -3,10 +3,11 @@
 use crate::calls::{accept, bobs_choice, open, speak};
 use crate::equal::is_equal;
 use crate::fault::TestFault;
-use crate::phones::{ALICE, ALICE_END, BOB, BOB_END, at, carried, new_side, own};
+use crate::phones::{ALICE, ALICE_END, BOB, BOB_END, at, carried, new_side, own, sent_in};
 use mc_box::{Event, MediaChange};
 use mc_shard::{AtEnd, Refused, Shard};
 use mc_signal::{Medium, Signal};
+use mc_slot::Goal;
 use std::alloc::Global;
 use std::process::Abort;
 
@@ -69,10 +70,11 @@ fn a_signal_that_arrives_twice_is_dropped(rt: HostRuntime) -> Result<(), TestFau
     Ok(())
 }
 
-// The open, but at another tunnel.
+// The open, but at another tunnel, of which its digest tells.
 fn astray() -> AtEnd {
     let mut item = open().item;
     item.tunnel = 3;
+    item.digest = 0x2e68_5be2_f9dc_735c;
     AtEnd { end: BOB_END, item }
 }
 
@@ -80,9 +82,11 @@ fn astray() -> AtEnd {
 fn a_signal_that_is_not_the_next_is_refused(rt: HostRuntime) -> Result<(), TestFault> {
     let alloc = rt.alloc();
     let mut bob = new_side(alloc, BOB, BOB_END)?;
-    let early = at(BOB_END, 2, 1, Signal::Open(Medium::Video, own(ALICE)));
-    let late = at(BOB_END, 1, 1 << 48, Signal::Open(Medium::Video, own(ALICE)));
-    let unlawful = at(BOB_END, 1, 1, Signal::Oack(own(ALICE)));
+    let asks = Signal::Open(Medium::Video, own(ALICE));
+    let early = at(BOB_END, 2, 1, 0, asks);
+    let late = at(BOB_END, 1, 1 << 48, 0x9c8c_dcf0_3481_a75e, asks);
+    let answers = Signal::Oack(own(ALICE));
+    let unlawful = at(BOB_END, 1, 1, 0x4f43_7ca6_4ee5_2df7, answers);
     refuses(&rt, alloc, &mut bob.shard, early, Refused::Ahead);
     refuses(&rt, alloc, &mut bob.shard, astray(), Refused::NoTunnel);
     refuses(&rt, alloc, &mut bob.shard, open(), Refused::NoTunnel);
@@ -96,6 +100,28 @@ fn a_signal_that_is_not_the_next_is_refused(rt: HostRuntime) -> Result<(), TestF
     refuses(&rt, alloc, &mut bob.shard, late, Refused::Stamp);
     refuses(&rt, alloc, &mut bob.shard, unlawful, Refused::Unlawful);
     Ok(())
+}
+
+// What alice opens with this stamp, and then closes.
+fn opens_and_closes(alloc: Global, known: u64) -> Result<(AtEnd, AtEnd), TestFault> {
+    let mut alice = new_side(alloc, ALICE, ALICE_END)?;
+    alice.ask(alloc, Goal::Open, known)?;
+    alice.ask(alloc, Goal::Close, 0)?;
+    Ok((sent_in(&alice.journal, 0)?, sent_in(&alice.journal, 1)?))
+}
+
+#[test]
+fn a_sender_that_lost_its_tail_is_refused(rt: HostRuntime) -> Result<(), TestFault> {
+    let alloc = rt.alloc();
+    let (first, next) = opens_and_closes(alloc, 0)?;
+    let (lost, after_lost) = opens_and_closes(alloc, 4)?;
+    let mut bob = new_side(alloc, BOB, BOB_END)?;
+    bob.ask(alloc, Goal::Hold, 0)?;
+    bob.take(alloc, carried(BOB_END, lost))?;
+    had(&rt, alloc, &mut bob.shard, carried(BOB_END, first));
+    let other = carried(BOB_END, next);
+    refuses(&rt, alloc, &mut bob.shard, other, Refused::Digest);
+    bob.take(alloc, carried(BOB_END, after_lost))
 }
 
 #[test]

@@ -1,4 +1,4 @@
-use Rattle.std.proofs.Common.{arith, ◌<◌}
+use Rattle.std.proofs.Common.{arith}
 use Rattle.mc_shard.proofs.Owned.{all_laid, one_more, one_unlaid}
 use Rattle.mc_shard.proofs.laid.are_laid.Goals as goal
 
