@@ -47,12 +47,13 @@ pub(crate) fn collect<R: Wait>(
     found
 }
 
-// Takes in one request. Without memory the box drops it, and each later one.
+// Takes in one request. Without memory the box drops it, and each later one, but counts the ends of operators.
 fn take_in(request: Request, worker: &mut Worker, course: &mut Course)
     requires { (a : Worker) × (asked : List Request) × (sent : ℕ) × (took : ℕ)
         × IsOn a worker.old asked sent took course.old }
-    ensures { (a : Worker) (asked : List Request) (sent took : ℕ) → IsOn a worker.old asked sent took course.old
+    ensures on { (a : Worker) (asked : List Request) (sent took : ℕ) → IsOn a worker.old asked sent took course.old
         → IsOn a worker.new (asked ++ request ∷ []) sent took course.new }
+    ensures ended { course.old.ended + 1 < 2 ^ 64 → course.new.ended ≡ course.old.ended + end_in request.event }
 {
     join_accounts();
     if is_refused(&course.pace) {
@@ -64,15 +65,16 @@ fn take_in(request: Request, worker: &mut Worker, course: &mut Course)
     }
 }
 
-// A request is kept, an end counted, and what is asked comes to the worker.
+// An end is counted, which needs no memory, a request kept, and what is asked comes to the worker.
 fn keep(request: Request, worker: &mut Worker, course: &mut Course) -> Result<(), AllocError>
     requires ready { IsReady worker.old }
     requires few { course.old.ended ≤ length course.old.taken.items }
     ensures ready { IsReady worker.new }
+    ensures ended { course.new.ended ≡ course.old.ended + end_in request.event }
     ensures taken { OnOk result (TakesIn request worker.old worker.new course.old course.new) }
 {
-    course.taken.push(request)?;
     count_end(request.event, course);
+    course.taken.push(request)?;
     meet(request.event, worker, course)
 }
 

@@ -28,5 +28,5 @@ loop-preserved g c =
       known = known_more c.args.desk.now old new request more (search rules) c.loop.invariant.known;
       on = λ a sent took on.
           subst (λ (l : List Request). IsOn a c.take_in.new.worker l sent took c.take_in.new.course) (sym more)
-          (c.take_in.ensures a (taken_by old) sent took (c.loop.invariant.on a sent took on));
+          (c.take_in.ensures.on a (taken_by old) sent took (c.loop.invariant.on a sent took on));
     }
