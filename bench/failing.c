@@ -7,9 +7,13 @@
 //   PIECE  the most bytes that a read or a write takes, in each call; 0 for as many as are asked for
 //   TOLD   a descriptor to which `!` is written where a call was made to do otherwise than it would, and `t` where a
 //          thread isn't made, be it for this or for want of memory
+//   LISTS  where in the program the code stands by which all its lists get memory, and LENGTH how long it is: what asks
+//          for memory elsewhere makes a thread; 0 where that isn't asked
 #define _GNU_SOURCE
 #include <dlfcn.h>
 #include <errno.h>
+#include <link.h>
+#include <stdint.h>
 #include <pthread.h>
 #include <stdatomic.h>
 #include <stdlib.h>
@@ -47,20 +51,35 @@ static int struck(const char *kind) {
   return 1;
 }
 
-static int refused(void) {
+static int first(struct dl_phdr_info *info, size_t size, void *at) {
+  *(uintptr_t *)at = info->dlpi_addr;
+  return 1;
+}
+
+// Whether memory isn't asked for by what serves all lists of the program, but by what makes a thread.
+static int is_for_thread(uintptr_t caller) {
+  uintptr_t base = 0;
+  dl_iterate_phdr(first, &base);
+  return number("LISTS") && (caller - base < number("LISTS") || caller - base > number("LISTS") + number("LENGTH"));
+}
+
+static int refused(void *caller) {
   if (!struck("memory")) return 0;
+  if (caller && is_for_thread((uintptr_t)caller)) tell("t");
   errno = ENOMEM;
   return 1;
 }
 
-void *malloc(size_t size) { return refused() ? 0 : __libc_malloc(size); }
-void *calloc(size_t count, size_t size) { return refused() ? 0 : __libc_calloc(count, size); }
-void *realloc(void *from, size_t size) { return refused() ? 0 : __libc_realloc(from, size); }
-void *aligned_alloc(size_t align, size_t size) { return refused() ? 0 : __libc_memalign(align, size); }
-void *memalign(size_t align, size_t size) { return refused() ? 0 : __libc_memalign(align, size); }
+#define CALLER __builtin_return_address(0)
+
+void *malloc(size_t size) { return refused(CALLER) ? 0 : __libc_malloc(size); }
+void *calloc(size_t count, size_t size) { return refused(CALLER) ? 0 : __libc_calloc(count, size); }
+void *realloc(void *from, size_t size) { return refused(0) ? 0 : __libc_realloc(from, size); }
+void *aligned_alloc(size_t align, size_t size) { return refused(CALLER) ? 0 : __libc_memalign(align, size); }
+void *memalign(size_t align, size_t size) { return refused(CALLER) ? 0 : __libc_memalign(align, size); }
 
 int posix_memalign(void **out, size_t align, size_t size) {
-  if (refused()) return ENOMEM;
+  if (refused(CALLER)) return ENOMEM;
   *out = __libc_memalign(align, size);
   return *out ? 0 : ENOMEM;
 }
