@@ -18,8 +18,9 @@ use Rattle.mc_signal.specs.declared.Signal.TheVariants.{Open, Oack, Close, Close
 use Rattle.mc_signal.proofs.Equal.{codec_list_same}
 use Rattle.mc_slot.specs.declared.Goal.{Goal}
 use Rattle.mc_slot.specs.declared.Goal.TheVariants.{Open as ToOpen, Close as ToClose, Hold as ToHold}
-use Rattle.mc_entry.specs.Wire.{FitsAt, FitsDescriptor, FitsSelector, FitsSignal, FitsTaken, OneForm, all_wire, at_wire, body_wire, codec_wire, codecs_wire, descriptor_wire, event_wire, selector_wire, signal_wire, taken_wire, word2, word4, word8, zeros}
+use Rattle.mc_entry.specs.Wire.{FitsAt, FitsDescriptor, FitsSelector, FitsRequest, FitsSignal, FitsTaken, OneForm, all_wire, asked_wire, at_wire, body_wire, codec_wire, codecs_wire, descriptor_wire, event_wire, selector_wire, signal_wire, taken_wire, word2, word4, word8, zeros}
 use Rattle.mc_entry.specs.Codes.{bit_code, bit_of, event_code, event_of, goal_code, goal_of}
+use Rattle.mc_shard.specs.declared.entry.Asked.{Asked}
 use Rattle.mc_shard.specs.declared.entry.AtEnd.{AtEnd}
 
 -- ---- lists
@@ -204,6 +205,21 @@ taken_one (Some c) (Some d) x y fits fits_2 is =
     let both = at_one c d x y fits fits_2 (tails 1 1 (at_wire c x) (at_wire d y) is) in
     (ap (λ (e : AtEnd). Some e) both.0, both.1)
 
+-- ---- requests
+
+asked_same : (a b : Asked) → a.asker ≡ b.asker → a.number ≡ b.number → Some a ≡ Some b
+asked_same a b one two =
+    ap (λ (n : ℕ). Some (record { asker = n; number = a.number })) one ∙ ap (λ (n : ℕ). Some (record { asker = b.asker; number = n })) two
+
+request_one : (a b : Option Asked) (x y : List ℕ) → FitsRequest a → FitsRequest b → asked_wire a x ≡ asked_wire b y → (a ≡ b) × (x ≡ y)
+request_one None None x y fits fits_2 is = (refl, tails 0 0 x y is)
+request_one None (Some d) x y fits fits_2 is = absurd (differ 0 1 x (word4 d.asker (word8 d.number y)) (λ e. omega arith) is)
+request_one (Some c) None x y fits fits_2 is = absurd (differ 1 0 (word4 c.asker (word8 c.number x)) y (λ e. omega arith) is)
+request_one (Some c) (Some d) x y fits fits_2 is =
+    let one = word4_one c.asker d.asker _ _ fits.0 fits_2.0 (tails 1 1 (word4 c.asker (word8 c.number x)) (word4 d.asker (word8 d.number y)) is) in
+    let two = word8_one c.number d.number x y fits.1 fits_2.1 one.1 in
+    (asked_same c d one.0 two.0, two.1)
+
 -- ---- events
 
 pub goal_again : (goal : Goal) → goal_of (goal_code goal) ≡ goal
@@ -240,17 +256,19 @@ event_one a b x y is =
 
 pub one_form : OneForm
 one_form a b more rest fits fits_2 is =
-    let start = tails 2 2 _ _ is in
+    let start = tails 3 3 _ _ is in
     let one = word4_one a.who b.who _ _ fits.who fits_2.who start in
     let two = word8_one a.stamp b.stamp _ _ fits.stamp fits_2.stamp one.1 in
     let three = event_one a.event b.event _ _ two.1 in
-    let four = taken_one a.taken b.taken _ _ fits.taken fits_2.taken three.1 in
+    let asks = request_one a.asked b.asked _ _ fits.asked fits_2.asked three.1 in
+    let four = taken_one a.taken b.taken _ _ fits.taken fits_2.taken asks.1 in
     let five = word2_one (length a.sent) (length b.sent) _ _ fits.count fits_2.count four.1 in
     let six = all_one a.sent b.sent more rest five.0 fits.sent fits_2.sent five.1 in (
-      ap (λ (n : ℕ). record { who = n; stamp = a.stamp; event = a.event; taken = a.taken; sent = a.sent }) one.0
-          ∙ (ap (λ (n : ℕ). record { who = b.who; stamp = n; event = a.event; taken = a.taken; sent = a.sent }) two.0
-          ∙ (ap (λ (e : Event). record { who = b.who; stamp = b.stamp; event = e; taken = a.taken; sent = a.sent }) three.0
-          ∙ (ap (λ (t : Option AtEnd). record { who = b.who; stamp = b.stamp; event = b.event; taken = t; sent = a.sent }) four.0
-          ∙ ap (λ (l : List AtEnd). record { who = b.who; stamp = b.stamp; event = b.event; taken = b.taken; sent = l }) six.0))),
+      ap (λ (n : ℕ). record { who = n; stamp = a.stamp; event = a.event; asked = a.asked; taken = a.taken; sent = a.sent }) one.0
+          ∙ (ap (λ (n : ℕ). record { who = b.who; stamp = n; event = a.event; asked = a.asked; taken = a.taken; sent = a.sent }) two.0
+          ∙ (ap (λ (e : Event). record { who = b.who; stamp = b.stamp; event = e; asked = a.asked; taken = a.taken; sent = a.sent }) three.0
+          ∙ (ap (λ (r : Option Asked). record { who = b.who; stamp = b.stamp; event = b.event; asked = r; taken = a.taken; sent = a.sent }) asks.0
+          ∙ (ap (λ (t : Option AtEnd). record { who = b.who; stamp = b.stamp; event = b.event; asked = b.asked; taken = t; sent = a.sent }) four.0
+          ∙ ap (λ (l : List AtEnd). record { who = b.who; stamp = b.stamp; event = b.event; asked = b.asked; taken = b.taken; sent = l }) six.0)))),
       six.1,
     )

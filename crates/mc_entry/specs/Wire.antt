@@ -9,6 +9,7 @@ use Rattle.mc_signal.specs.declared.Selector.{Selector}
 use Rattle.mc_signal.specs.declared.Signal.{Signal}
 use Rattle.mc_signal.specs.declared.Signal.TheVariants.{Open, Oack, Close, Closeack, Describe, Select}
 use Rattle.mc_shard.specs.Journals.{EntryState}
+use Rattle.mc_shard.specs.declared.entry.Asked.{Asked}
 use Rattle.mc_shard.specs.declared.entry.AtEnd.{AtEnd}
 use Rattle.mc_shard.specs.Digests.{medium_code}
 use Rattle.mc_entry.specs.Codes.{event_code, kind_code}
@@ -80,14 +81,19 @@ taken_wire (Some one) more = 1 ∷ at_wire one more
 abbrev pub event_wire : Event → List ℕ → List ℕ
 event_wire event more = (event_code event).0 ∷ (event_code event).1 ∷ (event_code event).2 ∷ more
 
+-- which request asked for it
+abbrev pub asked_wire : Option Asked → List ℕ → List ℕ
+asked_wire None more = 0 ∷ more
+asked_wire (Some asked) more = 1 ∷ word4 asked.asker (word8 asked.number more)
+
 -- the version of the form
 abbrev pub form_version : ℕ
-form_version = 2
+form_version = 3
 
--- 19 bytes, 54 for what was taken, and 54 for each signal that was sent
+-- 20 bytes, 12 for a request, 54 for what was taken, and 54 for each signal that was sent
 abbrev pub entry_wire : EntryState → List ℕ → List ℕ
 entry_wire entry more = form_version ∷ word4 entry.who (word8 entry.stamp (event_wire entry.event
-    (taken_wire entry.taken (word2 (length entry.sent) (all_wire entry.sent more)))))
+    (asked_wire entry.asked (taken_wire entry.taken (word2 (length entry.sent) (all_wire entry.sent more))))))
 
 -- ---- what has a form
 
@@ -123,10 +129,15 @@ abbrev pub FitsTaken : Option AtEnd → Type 0
 FitsTaken None = Unit {0}
 FitsTaken (Some one) = FitsAt one
 
+abbrev pub FitsRequest : Option Asked → Type 0
+FitsRequest None = Unit {0}
+FitsRequest (Some asked) = (asked.asker < 2 ^ 32) × (asked.number < 2 ^ 64)
+
 -- each number fits its field
 pub record FitsEntry (entry : EntryState) : Type 0 where
   pub who : entry.who < 2 ^ 32
   pub stamp : entry.stamp < 2 ^ 64
+  pub asked : FitsRequest entry.asked
   pub taken : FitsTaken entry.taken
   pub count : length entry.sent < 2 ^ 16
   pub sent : AllByRecursion FitsAt entry.sent

@@ -8,7 +8,7 @@ use mc_signal::Medium;
 use mc_slot::Goal;
 
 /// The version of the form.
-pub const FORM_VERSION: u8 = 2;
+pub const FORM_VERSION: u8 = 3;
 
 fn goal_code(goal: Goal) -> u8
     ensures { result ≡ goal_code goal }

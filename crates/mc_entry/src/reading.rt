@@ -5,13 +5,13 @@ ghost use Rattle.std.specs.List.{AllByRecursion};
 ghost use Rattle.mc_signal.specs.Choice.{codecs_of, has_codec};
 ghost use Rattle.mc_signal.specs.declared.codec_list.CodecList.{CodecList as Codecs};
 ghost use Rattle.mc_entry.specs.Reading.{Reads, ReadsAll, ReadsAny};
-ghost use Rattle.mc_entry.specs.Wire.{FitsAt, FitsDescriptor, FitsSelector, FitsSignal, FitsTaken, at_wire, codec_wire, codecs_wire, descriptor_wire, event_wire, selector_wire, signal_wire, taken_wire};
+ghost use Rattle.mc_entry.specs.Wire.{FitsAt, FitsDescriptor, FitsRequest, FitsSelector, FitsSignal, FitsTaken, asked_wire, at_wire, codec_wire, codecs_wire, descriptor_wire, event_wire, selector_wire, signal_wire, taken_wire};
 
 use crate::bytes::Bytes;
 use crate::codes::{event_of, medium_of};
 use mc_box::Event;
 use mc_lane::Lane;
-use mc_shard::{AtEnd, Numbered};
+use mc_shard::{Asked, AtEnd, Numbered};
 use mc_signal::{CodecList, Descriptor, Medium, Selector, Signal};
 use std::alloc::{AllocError, Global};
 
@@ -143,6 +143,20 @@ pub fn read_taken(bytes: &mut Bytes<'_>) -> Option<AtEnd>
 {
     if bytes.byte() == 1 {
         Some(read_at(bytes))
+    } else {
+        None
+    }
+}
+
+/// Which request asked for an entry.
+pub fn read_asked(bytes: &mut Bytes<'_>) -> Option<Asked>
+    ensures fits { FitsRequest result }
+    ensures reads { Reads FitsRequest asked_wire bytes.old bytes.new result }
+{
+    if bytes.byte() == 1 {
+        let asker = bytes.word4();
+        let number = bytes.word8();
+        Some(Asked { asker, number })
     } else {
         None
     }

@@ -5,7 +5,7 @@ ghost use Rattle.mc_entry.specs.Reading.{BeginWithNone, BeginsWith, Reads};
 ghost use Rattle.mc_entry.specs.Wire.{FitsEntry, entry_wire};
 
 use crate::bytes::Bytes;
-use crate::reading::{read_event, read_sent, read_taken};
+use crate::reading::{read_asked, read_event, read_sent, read_taken};
 use crate::writing::write_entry;
 use mc_shard::Entry;
 use std::alloc::{AllocError, Global};
@@ -28,6 +28,7 @@ fn read_fields(alloc: Global, bytes: &mut Bytes<'_>) -> Result<Entry, AllocError
     let who = bytes.word4();
     let stamp = bytes.word8();
     let event = read_event(bytes);
+    let asked = read_asked(bytes);
     let taken = read_taken(bytes);
     let count = bytes.word2();
     let sent = read_sent(alloc, bytes, count)?;
@@ -35,6 +36,7 @@ fn read_fields(alloc: Global, bytes: &mut Bytes<'_>) -> Result<Entry, AllocError
         who,
         stamp,
         event,
+        asked,
         taken,
         sent,
     })

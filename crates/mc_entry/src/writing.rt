@@ -1,12 +1,12 @@
 // An entry written as bytes.
 
 ghost use Rattle.std.specs.Prelude.{◌≡◌, ◌++◌, ◌∷◌, ◌<◌, ◌^◌, List, ℕ, [], length, OnOk};
-ghost use Rattle.mc_entry.specs.Wire.{Writes, all_wire, at_wire, codec_wire, codecs_wire, descriptor_wire, entry_wire, event_wire, selector_wire, signal_wire, taken_wire, word2, word4, word8, zeros};
+ghost use Rattle.mc_entry.specs.Wire.{Writes, all_wire, asked_wire, at_wire, codec_wire, codecs_wire, descriptor_wire, entry_wire, event_wire, selector_wire, signal_wire, taken_wire, word2, word4, word8, zeros};
 
 use crate::codes::{FORM_VERSION, event_code};
 use mc_box::Event;
 use mc_lane::Lane;
-use mc_shard::{AtEnd, Entry, medium_code};
+use mc_shard::{Asked, AtEnd, Entry, medium_code};
 use mc_signal::{CodecList, Descriptor, Selector, Signal};
 use std::alloc::AllocError;
 
@@ -150,6 +150,19 @@ fn put_event(out: &mut Vec<u8>, event: Event) -> Result<(), AllocError>
     put(out, &[code.0, code.1, code.2])
 }
 
+fn put_asked(out: &mut Vec<u8>, asked: Option<Asked>) -> Result<(), AllocError>
+    ensures { OnOk result (Writes out.old.items out.new.items (asked_wire asked)) }
+{
+    match asked {
+        Some(asked) => {
+            put(out, &[1])?;
+            put4(out, asked.asker)?;
+            put8(out, asked.number)
+        }
+        None => put(out, &[0]),
+    }
+}
+
 fn put_all(out: &mut Vec<u8>, sent: &Lane<AtEnd>) -> Result<(), AllocError>
     ensures { OnOk result (Writes out.old.items out.new.items (all_wire sent.now.items)) }
 {
@@ -160,8 +173,8 @@ fn put_all(out: &mut Vec<u8>, sent: &Lane<AtEnd>) -> Result<(), AllocError>
     Ok(())
 }
 
-/// Appends an entry's bytes: 19, then 54 for what was taken, and 54 for each signal that was sent. After an error the
-/// buffer has a part of them.
+/// Appends an entry's bytes: 20, 12 for a request, 54 for what was taken, and 54 for each signal that was sent. After an
+/// error the buffer has a part of them.
 pub fn write_entry(entry: &Entry, out: &mut Vec<u8>) -> Result<(), AllocError>
     requires { length entry.now.sent < 2 ^ 16 }
     ensures { OnOk result (Writes out.old.items out.new.items (entry_wire entry.now)) }
@@ -170,6 +183,7 @@ pub fn write_entry(entry: &Entry, out: &mut Vec<u8>) -> Result<(), AllocError>
     put4(out, entry.who)?;
     put8(out, entry.stamp)?;
     put_event(out, entry.event)?;
+    put_asked(out, entry.asked)?;
     put_taken(out, &entry.taken)?;
     put2(out, entry.sent.len() as u16)?;
     put_all(out, &entry.sent)

@@ -1,15 +1,17 @@
 -- The journal of a shard, and what it says of the lanes at its channel ends.
 use Rattle.std.specs.Prelude.{◌≡◌, ◌⊎◌, ◌==◌, ℕ, ◌+◌, if◌then◌else◌, List, [], ◌∷◌, ◌++◌, Option, Some, None}
 use Rattle.mc_box.specs.declared.event.Event.{Event}
+use Rattle.mc_shard.specs.declared.entry.Asked.{Asked}
 use Rattle.mc_shard.specs.declared.entry.AtEnd.{AtEnd}
 use Rattle.mc_shard.specs.declared.entry.Numbered.{Numbered}
 
 -- an entry of a journal, which is one turn: of which box, by its number in the shard, with which stamp, which event,
--- what it took, and what it sent, in order
+-- which request asked for it, what it took, and what it sent, in order
 pub record EntryState : Type 0 where
   pub who : ℕ
   pub stamp : ℕ
   pub event : Event
+  pub asked : Option Asked
   pub taken : Option AtEnd
   pub sent : List AtEnd
 

@@ -1,15 +1,18 @@
 -- Why a shard makes no turn.
-use Rattle.std.specs.Prelude.{◌≡◌, ◌⊎◌, ℕ, ◌+◌, ◌<◌, ◌≤◌, true, false, List, length, max, slice_get, take, Some, None}
+use Rattle.std.specs.Prelude.{◌≡◌, ◌⊎◌, ℕ, ◌+◌, ◌<◌, ◌≤◌, true, false, List, length, max, slice_get, take, Option, Some, None}
 use Rattle.mc_box.specs.BoxEvents.{box_event, is_enabled, is_take, is_version_end}
 use Rattle.mc_box.specs.declared.event.Event.{Event}
 use Rattle.mc_box.specs.declared.event.Event.TheVariants.{Take}
 use Rattle.mc_shard.specs.Journals.{EntryState}
 use Rattle.mc_shard.specs.Shards.{LaidShard}
-use Rattle.mc_shard.specs.States.{Follows, IsJournal, MayFollow, Places, ShardState, box_in, count_at, places_of, reached_at, state_after}
+use Rattle.mc_shard.specs.States.{FitsAsked, Follows, IsJournal, MayFollow, Places, ShardState, box_in, count_at, last_request, places_of, reached_at, state_after}
+use Rattle.mc_shard.specs.declared.asking.AskedOrder.{AskedOrder}
+use Rattle.mc_shard.specs.declared.asking.AskedOrder.TheVariants.{Had, Next, TooEarly, Unknown}
+use Rattle.mc_shard.specs.declared.entry.Asked.{Asked}
 use Rattle.mc_shard.specs.declared.entry.AtEnd.{AtEnd}
 use Rattle.mc_shard.specs.declared.limit.TheConstants.{LAST_STAMP}
 use Rattle.mc_shard.specs.declared.refused.Refused.{Refused}
-use Rattle.mc_shard.specs.declared.refused.Refused.TheVariants.{Ahead, Digest, NoBox, NoEnd, NoMemory, NoTunnel, NotEnabled, Stamp, Unlawful, VersionEnd}
+use Rattle.mc_shard.specs.declared.refused.Refused.TheVariants.{Ahead, Digest, NoAsker, NoBox, NoEnd, NoMemory, NoTunnel, NotEnabled, Stamp, Unlawful, VersionEnd}
 
 -- ---- why a request makes no turn
 
@@ -31,11 +34,35 @@ HindersAct NotEnabled shard who event = CannotAct shard who event
 HindersAct VersionEnd shard who event = LacksVersion shard who event
 HindersAct why shard who event = ⊥
 
--- a request is no Take, and there must be a stamp above the one that the asker knows of
-abbrev pub HindersAsked : Refused → LaidShard → ℕ → Event → ℕ → Type 0
-HindersAsked NotEnabled shard who event known = (is_take event ≡ true) ⊎ CannotAct shard who event
-HindersAsked Stamp shard who event known = LAST_STAMP ≤ max shard.state.stamp known
-HindersAsked why shard who event known = HindersAct why shard who event
+-- a request that was made already
+abbrev pub WasAsked : List ℕ → Option Asked → Type 0
+WasAsked last None = ⊥
+WasAsked last (Some asked) = (asked.asker < length last) × (asked.number ≤ last_request last asked.asker)
+
+-- its asker isn't there
+abbrev pub LacksAsker : List ℕ → Option Asked → Type 0
+LacksAsker last None = ⊥
+LacksAsker last (Some asked) = length last ≤ asked.asker
+
+-- it is a later one than the next of its asker
+abbrev pub IsAskedAhead : List ℕ → Option Asked → Type 0
+IsAskedAhead last None = ⊥
+IsAskedAhead last (Some asked) = (asked.asker < length last) × (last_request last asked.asker + 1 < asked.number)
+
+-- how a request stands to the last of its asker
+abbrev pub IsAskedOrder : AskedOrder → List ℕ → Option Asked → Type 0
+IsAskedOrder Next last asked = FitsAsked last asked None
+IsAskedOrder Had last asked = WasAsked last asked
+IsAskedOrder TooEarly last asked = IsAskedAhead last asked
+IsAskedOrder Unknown last asked = LacksAsker last asked
+
+-- a request is the next of its asker, and no Take; and there must be a stamp above the one that the asker knows of
+abbrev pub HindersAsked : Refused → LaidShard → Option Asked → ℕ → Event → ℕ → Type 0
+HindersAsked NoAsker shard asked who event known = LacksAsker shard.state.asked asked
+HindersAsked Ahead shard asked who event known = IsAskedAhead shard.state.asked asked
+HindersAsked NotEnabled shard asked who event known = (is_take event ≡ true) ⊎ CannotAct shard who event
+HindersAsked Stamp shard asked who event known = LAST_STAMP ≤ max shard.state.stamp known
+HindersAsked why shard asked who event known = HindersAct why shard who event
 
 -- ---- why a signal isn't taken
 

@@ -4,6 +4,7 @@ use Rattle.mc_box.specs.Boxes.{BoxState}
 use Rattle.mc_box.specs.declared.event.Event.{Event}
 use Rattle.mc_shard.specs.Journals.{EntryState}
 use Rattle.mc_shard.specs.States.{MayFollow, Places, ShardState, after_entry, count_at, none_reached, places_of}
+use Rattle.mc_shard.specs.declared.entry.Asked.{Asked}
 use Rattle.mc_shard.specs.declared.entry.AtEnd.{AtEnd}
 use Rattle.mc_shard.specs.declared.limit.TheConstants.{LAST_STAMP, SENT_LIMIT}
 use Rattle.mc_shard.specs.declared.parts.ShardParts.{ShardParts}
@@ -23,6 +24,7 @@ shard_of parts = record {
     stamp = parts.stamp;
     sent = parts.sent.items;
     taken = parts.taken.items;
+    asked = parts.asked.items;
   };
 }
 
@@ -66,13 +68,14 @@ pub record AreLaid (boxes : List BoxState) (places : Places) (owners : List ℕ)
   pub ends : (who : ℕ) → AreEnds (length owners) (places_of places who)
   pub owned : OwnEnds places owners
 
--- nothing was sent or taken yet
-abbrev pub first_state : List BoxState → ℕ → ShardState
-first_state boxes ends = record {
+-- nothing was sent, taken or asked yet
+abbrev pub first_state : List BoxState → ℕ → ℕ → ShardState
+first_state boxes ends askers = record {
   boxes = boxes;
   stamp = 0;
   sent = replicate ends none_reached;
   taken = replicate ends none_reached;
+  asked = replicate askers 0;
 }
 
 -- ---- a turn
@@ -82,8 +85,10 @@ pub record IsMade (old new : LaidShard) (entry : EntryState) : Type 0 where
   pub follows : MayFollow old.places old.state entry
   pub after : new ≡ record old { state = after_entry old.state entry }
 
--- the entry of this event of this box, that takes this, with this stamp
-pub record IsOf (entry : EntryState) (who : ℕ) (event : Event) (taken : Option AtEnd) (stamp : ℕ) : Type 0 where
+-- the entry of this event of this box, that this request asked for, that takes this, with this stamp
+pub record IsOf (entry : EntryState) (asked : Option Asked) (who : ℕ) (event : Event) (taken : Option AtEnd)
+    (stamp : ℕ) : Type 0 where
+  pub asked_is : entry.asked ≡ asked
   pub who_is : entry.who ≡ who
   pub event_is : entry.event ≡ event
   pub taken_is : entry.taken ≡ taken

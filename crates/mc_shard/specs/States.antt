@@ -8,6 +8,7 @@ use Rattle.mc_box.specs.declared.event.Event.{Event}
 use Rattle.mc_box.specs.declared.event.Event.TheVariants.{Take}
 use Rattle.mc_shard.specs.Digests.{digest_after}
 use Rattle.mc_shard.specs.Journals.{EntryState, taken_list}
+use Rattle.mc_shard.specs.declared.entry.Asked.{Asked}
 use Rattle.mc_shard.specs.declared.entry.AtEnd.{AtEnd}
 use Rattle.mc_shard.specs.declared.entry.Numbered.{Numbered}
 use Rattle.mc_shard.specs.declared.reached.Reached.{Reached}
@@ -22,12 +23,14 @@ places_of places who = slice_index_or places who []
 
 -- ---- states
 
--- boxes; the stamp of the last turn; and for each end how far its lanes are, by what was sent there, and taken
+-- boxes; the stamp of the last turn; for each end how far its lanes are, by what was sent there, and taken; and for
+-- each asker the number of its last request
 pub record ShardState : Type 0 where
   pub boxes : List BoxState
   pub stamp : ℕ
   pub sent : List Reached
   pub taken : List Reached
+  pub asked : List ℕ
 
 abbrev pub box_in : ShardState → ℕ → BoxState
 box_in state who = slice_index_or state.boxes who no_box
@@ -64,6 +67,28 @@ pub record IsNext (last : Reached) (item : Numbered) : Type 0 where
 abbrev pub AreNext : List Reached → List AtEnd → Type 0
 AreNext lanes [] = Unit {0}
 AreNext lanes (one ∷ rest) = IsNext (reached_at lanes one.end) one.item × AreNext (raised lanes one) rest
+
+-- ---- requests
+
+-- the number of an asker's last request, and 0 before its first
+abbrev pub last_request : List ℕ → ℕ → ℕ
+last_request asked asker = slice_index_or asked asker 0
+
+-- it is the next request of an asker that is there
+pub record IsNextAsked (last : List ℕ) (asked : Asked) : Type 0 where
+  pub there : asked.asker < length last
+  pub number : asked.number ≡ last_request last asked.asker + 1
+
+-- a request is the next of its asker, and none asks for what takes a signal
+abbrev pub FitsAsked : List ℕ → Option Asked → Option AtEnd → Type 0
+FitsAsked last None taken = Unit {0}
+FitsAsked last (Some asked) None = IsNextAsked last asked
+FitsAsked last (Some asked) (Some one) = ⊥
+
+-- it is the last of its asker
+abbrev pub asked_after : List ℕ → Option Asked → List ℕ
+asked_after last None = last
+asked_after last (Some asked) = slice_set last asked.asker asked.number
 
 -- ---- what a box sends, as its journal has it
 
@@ -117,14 +142,15 @@ step_in state entry = unwrap_or (box_event (box_in state entry.who) entry.event 
     (record { sent = []; after = box_in state entry.who })
 
 -- the entry is what its box makes of its event: what the box sends stands in the same entry, with the next numbers;
--- what it takes is the next of its lane; and the stamp is above that of the turn before, and above that with which what
--- it takes was sent
+-- what it takes is the next of its lane; a request that asked for it is the next of its asker; and the stamp is above
+-- that of the turn before, and above that with which what it takes was sent
 pub record MayFollow (places : Places) (state : ShardState) (entry : EntryState) : Type 0 where
   pub here : entry.who < length state.boxes
   pub goes : box_event (box_in state entry.who) entry.event (signal_of entry.taken) ≡ Some (step_in state entry)
   pub sent : entry.sent ≡ numbered (places_of places entry.who) entry.stamp state.sent (step_in state entry).sent
   pub next : AreNext state.taken (taken_list entry.taken)
   pub fits : FitsPlaces (places_of places entry.who) entry.event entry.taken
+  pub asked : FitsAsked state.asked entry.asked entry.taken
   pub rises : state.stamp < entry.stamp
   pub above : IsAbove entry.taken entry.stamp
 
@@ -135,6 +161,7 @@ after_entry state entry = record {
   stamp = entry.stamp;
   sent = raised_all state.sent entry.sent;
   taken = raised_all state.taken (taken_list entry.taken);
+  asked = asked_after state.asked entry.asked;
 }
 
 -- ---- journals

@@ -1,12 +1,14 @@
 // Turns that take nothing, each made after its memory was asked for.
 
-ghost use Rattle.std.specs.Prelude.{◌≡◌, ◌≢◌, ◌+◌, ◌*◌, ◌<◌, ◌≤◌, max, [], length, is_err, IsTrue, IsFalse, IfErr, IfOk, IfSome, OnErr, OnOk, Some, None};
+ghost use Rattle.std.specs.Prelude.{◌≡◌, ◌≢◌, ◌+◌, ◌*◌, ◌<◌, ◌≤◌, max, [], length, is_err, IsTrue, IsFalse, IfErr, IfOk, IfSome, MatchOption, OnErr, OnOk, Ok, Err, Some, None};
 ghost use Rattle.mc_box.specs.BoxEvents.{box_event, is_enabled, is_take, is_version_end};
-ghost use Rattle.mc_shard.specs.Refusals.{HindersAct, HindersAsked};
+ghost use Rattle.mc_shard.specs.Refusals.{HindersAct, HindersAsked, IsAskedAhead, LacksAsker, WasAsked};
 ghost use Rattle.mc_shard.specs.Shards.{IsOf, IsMade, IsShaped, shard_of, stamp_above};
+ghost use Rattle.mc_shard.specs.States.{FitsAsked};
 ghost use Rattle.mc_shard.specs.declared.limit.TheConstants.{LAST_STAMP, SENT_LIMIT};
 
-use crate::entry::{AtEnd, Entry};
+use crate::asking::{AskedOrder, asked_order, raise_asker};
+use crate::entry::{Asked, AtEnd, Entry};
 use crate::limit::LAST_STAMP;
 use crate::numbering::number_all;
 use crate::parts::ShardParts;
@@ -62,21 +64,23 @@ fn act_box(
 }
 
 impl ShardParts {
-    /// An event that takes nothing, with this stamp.
+    /// An event that takes nothing, and that this request asked for, with this stamp.
     pub fn make_act(
         &mut self,
         alloc: Global,
+        asked: Option<Asked>,
         who: u32,
         event: Event,
         stamp: u64,
     ) -> Result<Entry, Refused>
         requires shaped { IsShaped (shard_of self.old) }
         requires takes_nothing { IsFalse (is_take event) }
+        requires asked { FitsAsked self.old.asked.items asked None }
         requires rises { self.old.stamp < stamp }
         requires fits { stamp ≤ LAST_STAMP }
         ensures shaped { IsShaped (shard_of self.new) }
         ensures made { IfOk result (λ entry. IsMade (shard_of self.old) (shard_of self.new) entry
-            × IsOf entry who event None stamp) }
+            × IsOf entry asked who event None stamp) }
         ensures few { IfOk result (λ entry. length entry.sent ≤ SENT_LIMIT) }
         ensures same { OnErr result (shard_of self.new ≡ shard_of self.old) }
         ensures why { IfErr result (λ why. (why ≢ Refused.Stamp) × HindersAct why (shard_of self.old) who event) }
@@ -101,31 +105,35 @@ impl ShardParts {
             &mut sendings,
             &mut sent,
         );
+        raise_asker(&mut self.asked, asked);
         self.stamp = stamp;
         Ok(Entry {
             who,
             stamp,
             event,
+            asked,
             taken: None,
             sent,
         })
     }
 
-    /// A request, as `Shard::request` says.
-    pub fn request(
+    // A request that wasn't made yet.
+    fn request_next(
         &mut self,
         alloc: Global,
+        asked: Option<Asked>,
         who: u32,
         event: Event,
         known: u64,
     ) -> Result<Entry, Refused>
-        requires { IsShaped (shard_of self.old) }
+        requires shaped { IsShaped (shard_of self.old) }
+        requires asked { FitsAsked self.old.asked.items asked None }
         ensures shaped { IsShaped (shard_of self.new) }
         ensures made { IfOk result (λ entry. IsMade (shard_of self.old) (shard_of self.new) entry
-            × IsOf entry who event None (stamp_above (shard_of self.old) known)) }
+            × IsOf entry asked who event None (stamp_above (shard_of self.old) known)) }
         ensures few { IfOk result (λ entry. length entry.sent ≤ SENT_LIMIT) }
         ensures same { OnErr result (shard_of self.new ≡ shard_of self.old) }
-        ensures why { IfErr result (λ why. HindersAsked why (shard_of self.old) who event known) }
+        ensures why { IfErr result (λ why. HindersAsked why (shard_of self.old) asked who event known) }
     {
         if is_take(event) {
             return Err(Refused::NotEnabled);
@@ -134,6 +142,39 @@ impl ShardParts {
         if before >= LAST_STAMP {
             return Err(Refused::Stamp);
         }
-        self.make_act(alloc, who, event, before + 1)
+        self.make_act(alloc, asked, who, event, before + 1)
+    }
+
+    /// A request, as `Shard::request` says.
+    pub fn request(
+        &mut self,
+        alloc: Global,
+        asked: Option<Asked>,
+        who: u32,
+        event: Event,
+        known: u64,
+    ) -> Result<Option<Entry>, Refused>
+        requires { IsShaped (shard_of self.old) }
+        ensures shaped { IsShaped (shard_of self.new) }
+        ensures made { IfOk result (λ made. MatchOption made
+            ((shard_of self.new ≡ shard_of self.old) × WasAsked self.old.asked.items asked)
+            (λ entry. IsMade (shard_of self.old) (shard_of self.new) entry
+            × IsOf entry asked who event None (stamp_above (shard_of self.old) known))) }
+        ensures few { IfOk result (λ made. IfSome made (λ entry. length entry.sent ≤ SENT_LIMIT)) }
+        ensures same { OnErr result (shard_of self.new ≡ shard_of self.old) }
+        ensures had { WasAsked self.old.asked.items asked → result ≡ Ok None }
+        ensures early { (LacksAsker self.old.asked.items asked → result ≡ Err Refused.NoAsker)
+            × (IsAskedAhead self.old.asked.items asked → result ≡ Err Refused.Ahead) }
+        ensures why { IfErr result (λ why. HindersAsked why (shard_of self.old) asked who event known) }
+    {
+        match asked_order(&self.asked, asked) {
+            AskedOrder::Had => Ok(None),
+            AskedOrder::TooEarly => Err(Refused::Ahead),
+            AskedOrder::Unknown => Err(Refused::NoAsker),
+            AskedOrder::Next => match self.request_next(alloc, asked, who, event, known) {
+                Ok(entry) => Ok(Some(entry)),
+                Err(why) => Err(why),
+            },
+        }
     }
 }

@@ -23,13 +23,21 @@ pub struct AtEnd {
     pub item: Numbered,
 }
 
+/// A request: who asks, by its number in the shard, from 0 on, and which of its requests it is, from 1 on.
+#[derive(Clone, Copy, PartialEq, Eq, Debug)]
+pub struct Asked {
+    pub asker: u32,
+    pub number: u64,
+}
+
 /// An entry of a journal, which is one turn: of which box, by its number in the shard, with which stamp, which event,
-/// what it took, and what it sent, in order.
+/// which request asked for it, what it took, and what it sent, in order.
 #[derive(Debug, Drop)]
 pub struct Entry {
     pub who: u32,
     pub stamp: u64,
     pub event: Event,
+    pub asked: Option<Asked>,
     pub taken: Option<AtEnd>,
     pub sent: Lane<AtEnd>,
 }
@@ -43,6 +51,7 @@ impl Model for Entry {
       who = entry.who;
       stamp = entry.stamp;
       event = entry.event;
+      asked = entry.asked;
       taken = entry.taken;
       sent = entry.sent.items;
     } };

@@ -2,6 +2,7 @@
 #![tactic(auto)]
 
 mod acting;
+mod asking;
 mod digest;
 mod entry;
 mod laid;
@@ -16,7 +17,7 @@ mod shard;
 mod taking;
 
 pub use digest::medium_code;
-pub use entry::{AtEnd, Entry, Numbered};
+pub use entry::{Asked, AtEnd, Entry, Numbered};
 pub use laid::are_laid;
 pub use places::SlotPlaces;
 pub use refused::{Refused, ReplayRefused};

@@ -9,7 +9,7 @@ use mc_box::MediaBox;
 use std::alloc::{AllocError, Global};
 
 /// Boxes, with the places of their slots; for each channel end its box, and how far its lanes are, by what was sent and
-/// taken there; and the stamp of the last turn.
+/// taken there; for each asker the number of its last request; and the stamp of the last turn.
 #[derive(Drop)]
 pub struct ShardParts {
     pub boxes: Vec<MediaBox>,
@@ -17,6 +17,7 @@ pub struct ShardParts {
     pub owners: Vec<u32>,
     pub sent: Vec<Reached>,
     pub taken: Vec<Reached>,
+    pub asked: Vec<u64>,
     pub stamp: u64,
 }
 
@@ -27,13 +28,14 @@ impl ShardParts {
         boxes: Vec<MediaBox>,
         places: Vec<SlotPlaces>,
         owners: Vec<u32>,
+        askers: u32,
     ) -> Result<ShardParts, AllocError>
         requires { AreLaid boxes.items places.items owners.items }
         ensures shaped { IfOk result (λ made. IsShaped (shard_of made)) }
         ensures is { IfOk result (λ made. shard_of made ≡ record {
           places = places.items;
           owners = owners.items;
-          state = first_state boxes.items (length owners.items);
+          state = first_state boxes.items (length owners.items) askers;
         }) }
     {
         let none = Reached {
@@ -42,12 +44,14 @@ impl ShardParts {
         };
         let sent = vec![in alloc; none; owners.len()]?;
         let taken = vec![in alloc; none; owners.len()]?;
+        let asked = vec![in alloc; 0; askers as usize]?;
         Ok(ShardParts {
             boxes,
             places,
             owners,
             sent,
             taken,
+            asked,
             stamp: 0,
         })
     }

@@ -5,6 +5,8 @@
 pub enum Refused {
     /// There is no box of this number.
     NoBox,
+    /// There is no asker of this number.
+    NoAsker,
     /// There is no channel end of this number.
     NoEnd,
     /// No slot has this tunnel of the channel end.
@@ -15,7 +17,7 @@ pub enum Refused {
     VersionEnd,
     /// The slot may not take this signal now.
     Unlawful,
-    /// It isn't the next of its lane, but a later one.
+    /// It isn't the next of its lane or of its asker, but a later one.
     Ahead,
     /// It is the next of its lane by its number, but its digest doesn't go on from that of the last that was taken: its
     /// sender lost a part of its journal.

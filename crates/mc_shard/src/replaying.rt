@@ -7,6 +7,7 @@ ghost use Rattle.mc_shard.specs.States.{IsJournal, IsNext, reached_at, state_aft
 ghost use Rattle.mc_shard.specs.declared.limit.TheConstants.{LAST_STAMP};
 
 use crate::acting::is_take;
+use crate::asking::{AskedOrder, asked_order};
 use crate::entry::{AtEnd, Entry};
 use crate::limit::LAST_STAMP;
 use crate::parts::ShardParts;
@@ -75,12 +76,15 @@ impl ShardParts {
         requires fits { entry.now.stamp ≤ LAST_STAMP }
         ensures shaped { IsShaped (shard_of self.new) }
         ensures made { IfOk result (λ made. IsMade (shard_of self.old) (shard_of self.new) made
-            × IsOf made entry.now.who entry.now.event entry.now.taken entry.now.stamp) }
+            × IsOf made entry.now.asked entry.now.who entry.now.event entry.now.taken entry.now.stamp) }
         ensures why { IfErr result (λ why.
             RefusesEntry why self.old.places.items (shard_of self.old).state entry.now) }
     {
         match entry.event {
             Event::Take(slot) => {
+                if entry.asked.is_some() {
+                    return Err(Refused::Differs);
+                }
                 if !self.is_at(entry.who, slot, at) {
                     return Err(Refused::Differs);
                 }
@@ -103,7 +107,7 @@ impl ShardParts {
         requires fits { entry.now.stamp ≤ LAST_STAMP }
         ensures shaped { IsShaped (shard_of self.new) }
         ensures made { IfOk result (λ made. IsMade (shard_of self.old) (shard_of self.new) made
-            × IsOf made entry.now.who entry.now.event entry.now.taken entry.now.stamp) }
+            × IsOf made entry.now.asked entry.now.who entry.now.event entry.now.taken entry.now.stamp) }
         ensures why { IfErr result (λ why.
             RefusesEntry why self.old.places.items (shard_of self.old).state entry.now) }
     {
@@ -113,7 +117,10 @@ impl ShardParts {
                 if is_take(entry.event) {
                     return Err(Refused::Differs);
                 }
-                self.make_act(alloc, entry.who, entry.event, entry.stamp)
+                if !matches!(asked_order(&self.asked, entry.asked), AskedOrder::Next) {
+                    return Err(Refused::Differs);
+                }
+                self.make_act(alloc, entry.asked, entry.who, entry.event, entry.stamp)
             }
         }
     }

@@ -1,12 +1,12 @@
 // A shard.
 
-ghost use Rattle.std.specs.Prelude.{◌≡◌, ◌<◌, ◌≤◌, length, IfErr, IfOk, IfSome, MatchOption, OnErr, Ok, None};
-ghost use Rattle.mc_shard.specs.Refusals.{HindersAsked, HindersTake, RefusesAt};
+ghost use Rattle.std.specs.Prelude.{◌≡◌, ◌<◌, ◌≤◌, length, IfErr, IfOk, IfSome, MatchOption, OnErr, Ok, Err, None};
+ghost use Rattle.mc_shard.specs.Refusals.{HindersAsked, HindersTake, IsAskedAhead, LacksAsker, RefusesAt, WasAsked};
 ghost use Rattle.mc_shard.specs.Shards.{AreLaid, IsMade, IsOf, IsShaped, IsTaking, first_state, stamp_above};
 ghost use Rattle.mc_shard.specs.States.{IsJournal, count_at, state_after};
 ghost use Rattle.mc_shard.specs.declared.limit.TheConstants.{SENT_LIMIT};
 
-use crate::entry::{AtEnd, Entry};
+use crate::entry::{Asked, AtEnd, Entry};
 use crate::parts::ShardParts;
 use crate::places::SlotPlaces;
 use crate::refused::{Refused, ReplayRefused};
@@ -34,23 +34,24 @@ impl Model for Shard {
 }
 
 impl Shard {
-    /// A shard of these boxes, with the places of their slots, and for each channel end its box. Nothing was sent or
-    /// taken yet. `are_laid` tests whether they fit together.
+    /// A shard of these boxes, with the places of their slots, for each channel end its box, and so many askers. Nothing
+    /// was sent, taken or asked yet. `are_laid` tests whether boxes, places and owners fit together.
     pub fn new(
         alloc: Global,
         boxes: Vec<MediaBox>,
         places: Vec<SlotPlaces>,
         owners: Vec<u32>,
+        askers: u32,
     ) -> Result<Shard, AllocError>
         requires { AreLaid boxes.items places.items owners.items }
         ensures { IfOk result (λ made. made ≡ record {
           places = places.items;
           owners = owners.items;
-          state = first_state boxes.items (length owners.items);
+          state = first_state boxes.items (length owners.items) askers;
         }) }
     {
         Ok(Shard {
-            parts: ShardParts::new(alloc, boxes, places, owners)?,
+            parts: ShardParts::new(alloc, boxes, places, owners, askers)?,
         })
     }
 
@@ -76,21 +77,28 @@ impl Shard {
     }
 
     /// An event that takes nothing, as it is asked for: the entry that it makes, with the least stamp above that of the
-    /// last turn and above one that the asker knows of.
+    /// last turn and above one that the asker knows of. What the shard asks itself has no number. Of an asker, one that
+    /// was made already changes nothing; `Refused::NoAsker` and `Refused::Ahead` come before other refusals.
     pub fn request(
         &mut self,
         alloc: Global,
+        asked: Option<Asked>,
         who: u32,
         event: Event,
         known: u64,
-    ) -> Result<Entry, Refused>
-        ensures made { IfOk result (λ entry. IsMade self.old self.new entry
-            × IsOf entry who event None (stamp_above self.old known)) }
-        ensures few { IfOk result (λ entry. length entry.sent ≤ SENT_LIMIT) }
+    ) -> Result<Option<Entry>, Refused>
+        ensures made { IfOk result (λ made. MatchOption made
+            ((self.new ≡ self.old) × WasAsked self.old.state.asked asked)
+            (λ entry. IsMade self.old self.new entry
+            × IsOf entry asked who event None (stamp_above self.old known))) }
+        ensures few { IfOk result (λ made. IfSome made (λ entry. length entry.sent ≤ SENT_LIMIT)) }
         ensures same { OnErr result (self.new ≡ self.old) }
-        ensures why { IfErr result (λ why. HindersAsked why self.old who event known) }
+        ensures had { WasAsked self.old.state.asked asked → result ≡ Ok None }
+        ensures early { (LacksAsker self.old.state.asked asked → result ≡ Err Refused.NoAsker)
+            × (IsAskedAhead self.old.state.asked asked → result ≡ Err Refused.Ahead) }
+        ensures why { IfErr result (λ why. HindersAsked why self.old asked who event known) }
     {
-        self.parts.request(alloc, who, event, known)
+        self.parts.request(alloc, asked, who, event, known)
     }
 
     /// A signal that arrives at a channel end: the entry that takes it, where it is the next of its lane, by its number

@@ -68,7 +68,7 @@ impl ShardParts {
         requires fits { stamp ≤ LAST_STAMP }
         ensures shaped { IsShaped (shard_of self.new) }
         ensures made { IfOk result (λ entry. IsMade (shard_of self.old) (shard_of self.new) entry
-            × IsOf entry who (Event.Take slot) (Some at) stamp) }
+            × IsOf entry None who (Event.Take slot) (Some at) stamp) }
         ensures few { IfOk result (λ entry. length entry.sent ≤ SENT_LIMIT) }
         ensures same { OnErr result (shard_of self.new ≡ shard_of self.old) }
         ensures why { IfErr result (λ why. HindersSlot why (shard_of self.old) who slot at) }
@@ -101,6 +101,7 @@ impl ShardParts {
             who,
             stamp,
             event: Event::Take(slot),
+            asked: None,
             taken: Some(at),
             sent,
         })

@@ -7,3 +7,4 @@ pub mod Digests
 pub mod Merged
 pub mod Worked
 pub mod Sound
+pub mod Askers

@@ -17,14 +17,14 @@ use Rattle.mc_shard_laws.specs.Worked.{WorkedShards, one_place, two_boxes, two_h
 
 alice_journal : IsJournal one_place (two_shards 0).first (two_shards 0).journal
 alice_journal = (
-  record { here = omega arith; goes = refl; sent = refl; next = tt; fits = tt; rises = omega arith; above = tt },
-  (record { here = omega arith; goes = refl; sent = refl; next = (record { number = refl; digest = refl }, tt); fits = refl; rises = omega arith; above = omega arith }, tt),
+  record { here = omega arith; goes = refl; sent = refl; next = tt; fits = tt; asked = tt; rises = omega arith; above = tt },
+  (record { here = omega arith; goes = refl; sent = refl; next = (record { number = refl; digest = refl }, tt); fits = refl; asked = tt; rises = omega arith; above = omega arith }, tt),
 )
 
 bob_journal : IsJournal one_place (two_shards 1).first (two_shards 1).journal
 bob_journal = (
-  record { here = omega arith; goes = refl; sent = refl; next = tt; fits = tt; rises = omega arith; above = tt },
-  (record { here = omega arith; goes = refl; sent = refl; next = (record { number = refl; digest = refl }, tt); fits = refl; rises = omega arith; above = omega arith }, tt),
+  record { here = omega arith; goes = refl; sent = refl; next = tt; fits = tt; asked = tt; rises = omega arith; above = tt },
+  (record { here = omega arith; goes = refl; sent = refl; next = (record { number = refl; digest = refl }, tt); fits = refl; asked = tt; rises = omega arith; above = omega arith }, tt),
 )
 
 one_end : HasEnd one_place 0 0

@@ -5,3 +5,4 @@ pub mod Digests
 pub mod Merged
 pub mod Sound
 pub mod Worked
+pub mod Askers

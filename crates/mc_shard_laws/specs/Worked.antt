@@ -23,12 +23,18 @@ abbrev pub one_place : Places
 one_place = ((0, 0) ∷ []) ∷ []
 
 abbrev pub one_box : ℕ → ShardState
-one_box who = record { boxes = box_at two_phones who ∷ []; stamp = 0; sent = none_reached ∷ []; taken = none_reached ∷ [] }
+one_box who = record {
+  boxes = box_at two_phones who ∷ [];
+  stamp = 0;
+  sent = none_reached ∷ [];
+  taken = none_reached ∷ [];
+  asked = [];
+}
 
 -- the entry that the box makes of an event
 abbrev pub entry_of : ShardState → ℕ → Event → Option AtEnd → EntryState
 entry_of state stamp event taken =
-    let bare : EntryState = record { who = 0; stamp = stamp; event = event; taken = taken; sent = [] } in
+    let bare : EntryState = record { who = 0; stamp = stamp; event = event; asked = None; taken = taken; sent = [] } in
     record bare { sent = numbered (places_of one_place 0) stamp state.sent (step_in state bare).sent }
 
 -- alice opens, and bob holds; bob takes the open, and alice his answer
@@ -49,7 +55,7 @@ two_shards zero = record { places = one_place; first = one_box 0; journal = alic
 two_shards (suc zero) = record { places = one_place; first = one_box 1; journal = bob_holds ∷ bob_takes ∷ [] }
 two_shards (suc (suc more)) = record {
   places = [];
-  first = record { boxes = []; stamp = 0; sent = []; taken = [] };
+  first = record { boxes = []; stamp = 0; sent = []; taken = []; asked = [] };
   journal = [];
 }
 

@@ -1,5 +1,6 @@
 //! Laws of shards, over the definitions alone: each function's contract is the law's sentence.
 
+ghost use Rattle.mc_shard_laws.specs.Askers.{RequestsGoOn};
 ghost use Rattle.mc_shard_laws.specs.Digests.{NextIsChained, SentIsChained};
 ghost use Rattle.mc_shard_laws.specs.Growth.{JournalsGrow, JournalsSplit, QuietStays};
 ghost use Rattle.mc_shard_laws.specs.Merged.{MergedRun};
@@ -75,4 +76,10 @@ pub fn sent_is_chained()
 /// So the next signal of a lane is never refused for its digest by a shard that took what the sender's journal says.
 pub fn next_is_chained()
     ensures { NextIsChained }
+{}
+
+/// The requests that a journal made of an asker are numbered one by one, from the one after its last before the journal
+/// to the one that the state keeps: each was made once.
+pub fn requests_go_on()
+    ensures { RequestsGoOn }
 {}

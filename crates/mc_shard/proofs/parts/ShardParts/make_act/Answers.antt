@@ -25,7 +25,7 @@ returns-clause-shaped c =
     let same : c.index_mut.result.now ≡ c.index-2.result.now = c.index_mut.ensures.value ∙ (there_is c.args.self.now.boxes.items c.args.who c.index_mut.result.now c.index-2.result.now inside ∙ sym c.index-2.ensures) in
     let slots : length c.index_mut.result.now.slots ≤ 64 = subst (λ (l : List Slot). length l ≤ 64) (c.slots.ensures.slots ∙ ap (λ (b : BoxState). b.slots) (sym same)) c.slots.ensures.few in
     shaped_after (shard_of c.args.self.now)
-    (record { boxes = (with_item c.args.self.now.boxes c.args.who c.act_box.new.one).items; stamp = c.args.stamp; sent = c.number_all.new.lanes.items; taken = c.args.self.now.taken.items })
+    (record { boxes = (with_item c.args.self.now.boxes c.args.who c.act_box.new.one).items; stamp = c.args.stamp; sent = c.number_all.new.lanes.items; taken = c.args.self.now.taken.items; asked = c.raise_asker.new.last.items })
     xs [] c.requires.shaped (length-set c.args.self.now.boxes.items c.args.who c.act_box.new.one) c.number_all.ensures.lanes (omega arith) refl (omega arith) c.requires.rises c.requires.fits
 
 pub returns-clause-few : goal.returns-clause-few
