@@ -15,6 +15,7 @@ fn is_same(rt: &impl Abort, got: &Entry, want: &Entry) {
     is_equal(rt, &got.who, &want.who);
     is_equal(rt, &got.stamp, &want.stamp);
     is_equal(rt, &got.event, &want.event);
+    is_equal(rt, &got.asked, &want.asked);
     is_equal(rt, &got.taken, &want.taken);
     is_count(rt, got.sent.len(), want.sent.len());
     for i in 0..want.sent.len() {
@@ -46,8 +47,8 @@ fn is_none(rt: &impl Abort, alloc: Global, bytes: &[u8]) -> Result<(), TestFault
     Ok(())
 }
 
-// An entry is read from its bytes, with others after them, and not from a front of them.
-fn is_read(rt: &impl Abort, alloc: Global, entry: &Entry) -> Result<(), TestFault> {
+/// An entry is read from its bytes, with others after them, and not from a front of them.
+pub fn is_read(rt: &impl Abort, alloc: Global, entry: &Entry) -> Result<(), TestFault> {
     let mut bytes = Vec::new(alloc);
     assert!(rt; entry.sent.len() < 65536);
     write_entry(entry, &mut bytes)?;
@@ -76,20 +77,21 @@ fn entries_of_a_call_are_read_again(rt: HostRuntime) -> Result<(), TestFault> {
 }
 
 // A byte of alice's first entry by its place, and what it can't be.
-const BROKEN: [(usize, u8); 13] = [
-    (0, 1), // another version of the form
+const BROKEN: [(usize, u8); 14] = [
+    (0, 2), // another version of the form
     (13, 8), // no event
     (15, 3), // a fourth goal
     (16, 2), // neither 0 nor 1
-    (17, 2), // two signals, of which one is there
-    (48, 6), // a seventh kind
-    (48, 1), // an oack of video
-    (49, 2), // a third medium
-    (64, 9), // nine codecs
-    (64, 0), // a codec of none
-    (64, 3), // codec 0 twice
-    (65, 64), // codec 64
-    (66, 8), // a codec past the last
+    (17, 2), // neither
+    (18, 2), // two signals, of which one is there
+    (49, 6), // a seventh kind
+    (49, 1), // an oack of video
+    (50, 2), // a third medium
+    (65, 9), // nine codecs
+    (65, 0), // a codec of none
+    (65, 3), // codec 0 twice
+    (66, 64), // codec 64
+    (67, 8), // a codec past the last
 ];
 
 // With this byte in place of its own the entry isn't read.

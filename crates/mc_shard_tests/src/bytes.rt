@@ -7,7 +7,7 @@ use crate::phones::{ALICE, ALICE_END, BOB, BOB_END, add, at, new_side};
 use mc_box::{Change, Event, MediaChange};
 use mc_entry::write_entry;
 use mc_lane::Lane;
-use mc_shard::{AtEnd, Entry};
+use mc_shard::{Asked, AtEnd, Entry};
 use mc_signal::{Selector, Signal};
 use mc_slot::Goal;
 use std::alloc::Global;
@@ -26,18 +26,18 @@ fn has_bytes(rt: &impl Abort, alloc: Global, entry: &Entry, want: &[u8]) -> Resu
 }
 
 /// The bytes of the entry in which alice opens.
-pub const OPENS: [u8; 73] = [
-    2, 0, 0, 0, 0, 1, 0, 0, 0, 0, 0, 0, 0, // the form, the box, the stamp
-    1, 0, 0, 0, // slot 0 gets the goal open; nothing is taken
+pub const OPENS: [u8; 74] = [
+    3, 0, 0, 0, 0, 1, 0, 0, 0, 0, 0, 0, 0, // the form, the box, the stamp
+    1, 0, 0, 0, 0, // slot 0 gets the goal open; no asker, and nothing is taken
     1, 0, // one signal is sent:
     0, 0, 0, 0, 1, 0, 0, 0, 0, 0, 0, 0, 1, 0, 0, 0, 0, 0, 0, 0, // end, number, stamp
     191, 121, 5, 108, 242, 21, 252, 240, 2, // digest, tunnel
     0, 1, 0, 0, 0, 0, 1, 0, 0, 0, 1, 0, 0, 0, 0x88, 0x13, 1, 9, 0, 0, 0, 0, 0, 0, 0, // an open for video
 ];
 
-const TAKES: [u8; 127] = [
-    2, 0, 0, 0, 0, 9, 0, 0, 0, 0, 0, 0, 0, // the form, the box, the stamp
-    0, 0, 0, 1, // slot 0 takes
+const TAKES: [u8; 128] = [
+    3, 0, 0, 0, 0, 9, 0, 0, 0, 0, 0, 0, 0, // the form, the box, the stamp
+    0, 0, 0, 0, 1, // slot 0 takes, and no asker asks
     0, 0, 0, 0, 1, 0, 0, 0, 0, 0, 0, 0, 8, 0, 0, 0, 0, 0, 0, 0, // end, number, stamp
     178, 59, 190, 155, 45, 188, 223, 17, 2, // digest, tunnel
     1, 0, 1, 0, 0, 0, 1, 0, 0, 0, 2, 0, 0, 0, 0x88, 0x13, 1, 9, 0, 0, 0, 0, 0, 0, 0, // an oack
@@ -80,6 +80,7 @@ fn entry(event: Event, taken: Option<AtEnd>, sent: Lane<AtEnd>) -> Entry {
         who: 0x0102_0304,
         stamp: 0x0506_0708_090a_0b0c,
         event,
+        asked: None,
         taken,
         sent,
     }
@@ -89,8 +90,8 @@ fn entry(event: Event, taken: Option<AtEnd>, sent: Lane<AtEnd>) -> Entry {
 fn has_event(rt: &impl Abort, alloc: Global, event: Event, code: [u8; 3]) -> Result<(), TestFault> {
     let [kind, first, second] = code;
     let want = [
-        2, 4, 3, 2, 1, 12, 11, 10, 9, 8, 7, 6, 5, // the form, the box, the stamp
-        kind, first, second, 0, 0, 0, // the event; nothing is taken or sent
+        3, 4, 3, 2, 1, 12, 11, 10, 9, 8, 7, 6, 5, // the form, the box, the stamp
+        kind, first, second, 0, 0, 0, 0, // the event; no asker, and nothing is taken or sent
     ];
     has_bytes(rt, alloc, &entry(event, None, Lane::new(alloc)), &want)
 }
@@ -103,9 +104,26 @@ fn events_have_their_bytes(rt: HostRuntime) -> Result<(), TestFault> {
     Ok(())
 }
 
-const ANSWERS: [u8; 181] = [
-    2, 4, 3, 2, 1, 12, 11, 10, 9, 8, 7, 6, 5, // the form, the box, the stamp
-    0, 0, 0, 1, // slot 0 takes
+const ASKED: [u8; 32] = [
+    3, 4, 3, 2, 1, 12, 11, 10, 9, 8, 7, 6, 5, // the form, the box, the stamp
+    5, 200, 0, 1, 4, 3, 2, 1, 8, 7, 6, 5, 4, 3, 2, 1, // a word; the asker, its number
+    0, 0, 0, // nothing is taken or sent
+];
+
+#[test]
+fn a_request_has_its_bytes(rt: HostRuntime) -> Result<(), TestFault> {
+    let alloc = rt.alloc();
+    let mut made = entry(Event::Tell(200), None, Lane::new(alloc));
+    made.asked = Some(Asked {
+        asker: 0x0102_0304,
+        number: 0x0102_0304_0506_0708,
+    });
+    has_bytes(&rt, alloc, &made, &ASKED)
+}
+
+const ANSWERS: [u8; 182] = [
+    3, 4, 3, 2, 1, 12, 11, 10, 9, 8, 7, 6, 5, // the form, the box, the stamp
+    0, 0, 0, 0, 1, // slot 0 takes, and no asker asks
     6, 5, 0, 0, 1, 2, 0, 0, 0, 0, 0, 0, 3, 0, 0, 0, 0, 1, 0, 0, // end, number, stamp
     1, 2, 3, 4, 5, 6, 7, 8, 2, // digest, tunnel
     2, 0, 0, 0, 0, 0, 0, 0, 0, 0, 0, 0, 0, 0, 0, 0, 0, 0, 0, 0, 0, 0, 0, 0, 0, // a close

@@ -61,6 +61,7 @@ fn is_entry(
     is_equal(rt, &entry.who, &0);
     is_equal(rt, &entry.stamp, &stamp);
     is_equal(rt, &entry.event, &event);
+    is_equal(rt, &entry.asked, &None);
     is_equal(rt, &entry.taken, &taken);
     is_count(rt, entry.sent.len(), sent.len());
     for i in 0..sent.len() {

@@ -2,6 +2,7 @@
 
 use mc_entry::EntryFault;
 use mc_shard::{Refused, ReplayRefused};
+use mc_shard_merge::MergeFault;
 use std::alloc::AllocError;
 
 /// Why a shard isn't made, or makes no turn.
@@ -11,13 +12,15 @@ pub enum TestFault {
     Unlaid,
     /// A request or a signal is refused.
     Refused(Refused),
-    /// A signal was taken already.
+    /// A signal was taken already, or a request made.
     Had,
     /// An entry isn't made again.
     Replay(ReplayRefused),
     /// Bytes are no entry's, or memory ran out.
     Read(EntryFault),
     NoMemory(AllocError),
+    /// Journals aren't merged.
+    Merge(MergeFault),
 }
 
 impl From<Refused> for TestFault {
@@ -41,5 +44,11 @@ impl From<EntryFault> for TestFault {
 impl From<AllocError> for TestFault {
     fn from(e: AllocError) -> Self {
         TestFault::NoMemory(e)
+    }
+}
+
+impl From<MergeFault> for TestFault {
+    fn from(e: MergeFault) -> Self {
+        TestFault::Merge(e)
     }
 }

@@ -1,8 +1,11 @@
-//! Tests of shards: a call between two of them, what they refuse, their journals made again, and the bytes of entries.
+//! Tests of shards: a call between two of them, requests that are made once, what they refuse, their journals made again,
+//! compared and merged, the bytes of entries, and what is seen before an entry stands.
 #![tactic(auto)]
 
 #[cfg(test)]
 mod again;
+#[cfg(test)]
+mod asking;
 #[cfg(test)]
 mod bytes;
 #[cfg(test)]
@@ -12,6 +15,10 @@ mod equal;
 #[cfg(test)]
 mod fault;
 #[cfg(test)]
+mod merged;
+#[cfg(test)]
 mod phones;
 #[cfg(test)]
 mod refusals;
+#[cfg(test)]
+mod written;

@@ -35,8 +35,10 @@ impl Side {
     /// The phone's slot gets a goal, which is asked for by one who knows of a turn with this stamp.
     pub fn ask(&mut self, alloc: Global, goal: Goal, known: u64) -> Result<(), TestFault> {
         let event = Event::Set(Change::End(0, goal));
-        let entry = self.shard.request(alloc, 0, event, known)?;
-        Ok(add(&mut self.journal, entry)?)
+        match self.shard.request(alloc, None, 0, event, known)? {
+            Some(entry) => Ok(add(&mut self.journal, entry)?),
+            None => Err(TestFault::Had),
+        }
     }
 
     /// A signal arrives, and is taken.
@@ -91,6 +93,9 @@ fn place(alloc: Global, end: u32) -> Result<SlotPlaces, AllocError> {
     Ok(SlotPlaces::new(list))
 }
 
+/// How many ask a shard.
+pub const ASKERS: u32 = 2;
+
 /// A shard of two ends, with one phone, whose slot is at this end.
 pub fn shard(alloc: Global, number: u32, end: u32) -> Result<Shard, TestFault>
     requires { number < 2 }
@@ -104,7 +109,7 @@ pub fn shard(alloc: Global, number: u32, end: u32) -> Result<Shard, TestFault>
     if !are_laid(&boxes, &places, &owners) {
         return Err(TestFault::Unlaid);
     }
-    Ok(Shard::new(alloc, boxes, places, owners)?)
+    Ok(Shard::new(alloc, boxes, places, owners, ASKERS)?)
 }
 
 /// A side of the call that made no turn yet.

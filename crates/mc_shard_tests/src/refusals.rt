@@ -39,7 +39,7 @@ fn refuses_request(
     let stamp = shard.stamp();
     is_equal(
         rt,
-        &why(shard.request(alloc, who, event, known)),
+        &why(shard.request(alloc, None, who, event, known)),
         &Some(want),
     );
     is_equal(rt, &shard.stamp(), &stamp);
