@@ -10,6 +10,7 @@ pub mod GoalLoops
 pub mod GoalTurns
 pub mod Held
 pub mod LinkFree
+pub mod Loaded
 pub mod NewBoxes
 pub mod Options
 pub mod Pairs

@@ -6,3 +6,4 @@ pub mod Boxes
 pub mod EventLaws
 pub mod Goals
 pub mod LinkFree
+pub mod Loading

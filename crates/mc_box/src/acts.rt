@@ -162,7 +162,7 @@ impl BoxParts {
     }
 
     /// An enabled event that takes no signal happens.
-    pub fn act(&mut self, e: Event, out: &mut Lane<(u8, Signal)>) -> Result<(), VersionEnd>
+    pub(crate) fn act(&mut self, e: Event, out: &mut Lane<(u8, Signal)>) -> Result<(), VersionEnd>
         requires sound { IsSoundBox (box_state self.old) }
         requires enabled { IsTrue (is_enabled (box_state self.old) e) }
         requires takes_nothing { IsFalse (is_take e) }

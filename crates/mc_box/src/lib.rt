@@ -6,6 +6,7 @@ mod event;
 mod goals;
 pub mod laws;
 pub mod limit;
+mod loading;
 mod media_box;
 mod parts;
 mod setup;
@@ -14,4 +15,5 @@ mod turns;
 
 pub use event::{BoxShape, Change, Event, Kind, MediaChange, Shape, Turn};
 pub use media_box::{MediaBox, VersionEnd};
+pub use parts::BoxParts;
 pub use setup::{MediaAddress, Setup, SlotMedia, SlotSetup};

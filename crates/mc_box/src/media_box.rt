@@ -1,11 +1,11 @@
 // A box: its slots, and the goal of each.
 
-ghost use Rattle.std.specs.Prelude.{◌≡◌, ◌+◌, ◌*◌, ◌^◌, ◌<◌, ◌≤◌, length, is_err, is_some, map, IfOk, IfSome, IsFalse, IsSome, IsTrue, None, OnErr, OnOk, Some};
+ghost use Rattle.std.specs.Prelude.{◌≡◌, ◌+◌, ◌*◌, ◌^◌, ◌<◌, ◌≤◌, length, is_err, is_some, map, IfOk, IfSome, IsFalse, IsSome, IsTrue, MatchOption, None, OnErr, OnOk, Some};
 ghost use Rattle.mc_signal.specs.Own.{address_of};
 ghost use Rattle.mc_slot.specs.Moves.{slot_take};
 ghost use Rattle.mc_slot.specs.Sending.{HasPlaces};
 ghost use Rattle.mc_box.specs.BoxEvents.{box_event, is_enabled, is_take, is_version_end, may_link, step_of, AddsStep, Appends};
-ghost use Rattle.mc_box.specs.BoxSound.{IsSoundBox};
+ghost use Rattle.mc_box.specs.BoxSound.{box_state, IsSoundBox};
 ghost use Rattle.mc_box.specs.Boxes.{first_slot, goal_at, is_slot, box_owes, own, sender, set_up, slot_at, with_new_slot, FitsSlots};
 ghost use Rattle.mc_box.specs.declared.limit.TheConstants.{SLOT_LIMIT};
 
@@ -53,6 +53,25 @@ impl MediaBox {
         Ok(MediaBox {
             parts: BoxParts::new(alloc, setup)?,
         })
+    }
+
+    /// The box that has these parts, as of one that was written down. None where no box keeps such parts: their lists
+    /// don't fit together, a slot keeps what its state doesn't allow, a link isn't mutual, the program is for other
+    /// slots, or a goal isn't at rest.
+    pub fn from_parts(parts: BoxParts) -> Option<MediaBox>
+        ensures { MatchOption result (IsSoundBox (box_state parts) → ⊥) (λ made. made ≡ box_state parts) }
+    {
+        if !parts.is_sound() {
+            return None;
+        }
+        Some(MediaBox { parts })
+    }
+
+    /// All that the box keeps, to be written down.
+    pub fn parts(&self) -> &BoxParts
+        ensures { box_state result.now ≡ self.now }
+    {
+        &self.parts
     }
 
     /// The box gets one slot more, in the last place: it is closed, its goal is close, and it hears and talks, at the

@@ -13,7 +13,9 @@ use mc_signal::{CodecList, Descriptor, Sender};
 use mc_slot::{Goal, Slot, SlotGoal};
 use std::alloc::{AllocError, Global};
 
-/// The parts of a box.
+/// The parts of a box: what it is, the codecs that it receives and those that it sends, the version at which its
+/// descriptors begin, for each slot the slot, its goal, and what its descriptors are made of; its program, the number of
+/// the state that that is at, and the told word that it hasn't used.
 #[derive(Debug, Drop)]
 pub struct BoxParts {
     pub kind: Kind,
@@ -31,7 +33,7 @@ pub struct BoxParts {
 
 impl BoxParts {
     /// The parts of a new box.
-    pub fn new(alloc: Global, setup: Setup) -> Result<BoxParts, AllocError>
+    pub(crate) fn new(alloc: Global, setup: Setup) -> Result<BoxParts, AllocError>
         ensures { IfOk result (λ made. box_state made ≡ set_up setup) }
     {
         let Setup {
@@ -60,7 +62,7 @@ impl BoxParts {
 
     /// One slot more, in the last place: it is closed, its goal is close, and it hears and talks, at the box's first
     /// version.
-    pub fn add_slot(&mut self, setup: SlotSetup) -> Result<(), AllocError>
+    pub(crate) fn add_slot(&mut self, setup: SlotSetup) -> Result<(), AllocError>
         ensures added { OnOk result (box_state self.new ≡ with_new_slot (box_state self.old) setup) }
         ensures unchanged { OnErr result (box_state self.new ≡ box_state self.old) }
     {
@@ -80,7 +82,7 @@ impl BoxParts {
     }
 
     /// The newest descriptor of a slot.
-    pub fn own(&self, local: u8) -> Descriptor
+    pub(crate) fn own(&self, local: u8) -> Descriptor
         requires wired { IsWired (box_state self.now) }
         requires here { local < length self.now.slots.items }
         ensures { result ≡ own (box_state self.now) local }
@@ -106,7 +108,7 @@ impl BoxParts {
     }
 
     /// What a slot can send.
-    pub fn sender(&self, local: u8) -> Sender
+    pub(crate) fn sender(&self, local: u8) -> Sender
         requires wired { IsWired (box_state self.now) }
         requires here { local < length self.now.slots.items }
         ensures { result ≡ sender (box_state self.now) local }

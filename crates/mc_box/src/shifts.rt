@@ -11,7 +11,7 @@ use mc_slot::SlotGoal;
 
 impl BoxParts {
     /// The enabled transition of the box's program.
-    pub fn enabled_shift(&self) -> Option<Shifted>
+    pub(crate) fn enabled_shift(&self) -> Option<Shifted>
         requires wired { IsWired (box_state self.now) }
         ensures { result ≡ enabled_shift (box_state self.now) }
     {
@@ -22,7 +22,7 @@ impl BoxParts {
     }
 
     /// The box goes to the state that an enabled transition leads to, and has its goals.
-    pub fn shift(&mut self, shift: Shifted)
+    pub(crate) fn shift(&mut self, shift: Shifted)
         requires wired { IsWired (box_state self.old) }
         requires enabled { enabled_shift (box_state self.old) ≡ Some shift }
         ensures { box_state self.new

@@ -80,7 +80,7 @@ impl BoxParts {
     }
 
     /// The turn of the goal that holds a slot, by what it follows.
-    pub fn goal_turn(&mut self, local: u8, cause: Cause) -> Sends
+    pub(crate) fn goal_turn(&mut self, local: u8, cause: Cause) -> Sends
         requires wired { IsWired (box_state self.old) }
         requires here { local < length self.old.slots.items }
         requires closed { cause ≡ Cause.Close → (slot_at (box_state self.old) local).state ≡ Closed }
@@ -94,7 +94,7 @@ impl BoxParts {
 
     /// A slot takes a signal that is lawful for it, and the goal that holds it has its turn. What is sent comes after
     /// what is there.
-    pub fn send_take(&mut self, local: u8, s: Signal, sends: &mut Sends)
+    pub(crate) fn send_take(&mut self, local: u8, s: Signal, sends: &mut Sends)
         requires sound { IsSoundBox (box_state self.old) }
         requires here { local < length self.old.slots.items }
         requires lawful { IsSome (slot_take (slot_at (box_state self.old) local) s) }
