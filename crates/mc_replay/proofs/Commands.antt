@@ -15,11 +15,11 @@ use Rattle.mc_replay.specs.Follows.{AreCommands}
 -- ---- the next one
 
 -- of commands the first of a box is its next one
-first_by : (own : Bool) (turn : Turn) (later : Option Turn) (rest : List Turn) → later ≡ slice_get rest 0 → cond own (Some turn) later ≡ slice_get (cond own (turn ∷ rest) rest) 0
+pub first_by : (own : Bool) (turn : Turn) (later : Option Turn) (rest : List Turn) → later ≡ slice_get rest 0 → cond own (Some turn) later ≡ slice_get (cond own (turn ∷ rest) rest) 0
 first_by true turn later rest is = refl
 first_by false turn later rest is = is
 
-first_of_box : (left : List Turn) (who : ℕ) → AreCommands left → next_of who left ≡ slice_get (commands_of who left) 0
+pub first_of_box : (left : List Turn) (who : ℕ) → AreCommands left → next_of who left ≡ slice_get (commands_of who left) 0
 first_of_box [] who all = refl
 first_of_box (turn ∷ left) who all =
     let both = both_true (is_command turn.event) (list_all (λ (t : Turn). is_command t.event) left) all in
@@ -38,7 +38,7 @@ next_same batch turns left who all commands =
 
 -- ---- one more
 
-moved_by : (b : Bool) (turn : Turn) (left : List Turn) (who : ℕ) → is_command turn.event ≡ b → (b ≡ true → next_of turn.who left ≡ Some turn)
+pub moved_by : (b : Bool) (turn : Turn) (left : List Turn) (who : ℕ) → is_command turn.event ≡ b → (b ≡ true → next_of turn.who left ≡ Some turn)
     → commands_of who (turn ∷ []) ++ commands_of who (if b then without_next turn.who left else left) ≡ commands_of who left
 moved_by true turn left who is next = next_first left turn who (next refl)
 moved_by false turn left who is next = ap (λ (b : Bool). cond (b && turn.who == who) (turn ∷ []) [] ++ commands_of who left) is

@@ -28,7 +28,7 @@ bit_small true = omega arith
 bit_small false = omega arith
 
 -- values of at most c below a limit
-total_small : (f : ℕ → ℕ) (c k : ℕ) → ((t : ℕ) → t < k → f t ≤ c) → total f k ≤ c * k
+pub total_small : (f : ℕ → ℕ) (c k : ℕ) → ((t : ℕ) → t < k → f t ≤ c) → total f k ≤ c * k
 total_small f c zero small = omega arith
 total_small f c (suc k) small = omega (arith, small k (omega arith), total_small f c k (λ t below. small t (omega arith)))
 
@@ -39,13 +39,13 @@ owed_slots box =
     = total_small (λ (local : ℕ). bit (box_owes box local)) 1 (length box.slots) (λ local below. bit_small (box_owes box local)) in
     omega (arith, most)
 
-owed_few : (world : WorldState) (who : ℕ) → IsSound world → who < length world.boxes → owed_in (box_at world who) ≤ 64
+pub owed_few : (world : WorldState) (who : ℕ) → IsSound world → who < length world.boxes → owed_in (box_at world who) ≤ 64
 owed_few world who sound inside =
     let few : length (box_at world who).slots ≤ 64 = (sound.boxes who inside).wired.few in
     omega (arith, few, owed_slots (box_at world who))
 
 -- the boxes of a sound world have numbers that fit
-boxes_by : (k : ℕ) (world : WorldState) → IsSound world → length world.boxes ≡ k → k < 2 ^ 32
+pub boxes_by : (k : ℕ) (world : WorldState) → IsSound world → length world.boxes ≡ k → k < 2 ^ 32
 boxes_by zero world sound is = omega arith
 boxes_by (suc k) world sound is =
     let inside : k < length world.boxes = omega (arith, is) in
@@ -53,15 +53,15 @@ boxes_by (suc k) world sound is =
     let address : (box_at world k).number + 1 < 2 ^ 32 = (sound.boxes k inside).wired.address in
     omega (arith, number, address)
 
-boxes_few : (world : WorldState) → IsSound world → length world.boxes < 2 ^ 32
+pub boxes_few : (world : WorldState) → IsSound world → length world.boxes < 2 ^ 32
 boxes_few world sound = boxes_by (length world.boxes) world sound refl
 
 -- so both counts fit
-record AreFew (world : WorldState) : Type 0 where
+pub record AreFew (world : WorldState) : Type 0 where
   owed : owed_count world ≤ 2 ^ 38
   ready : ready_count world ≤ 2 ^ 32
 
-counts_few : (world : WorldState) → IsSound world → AreFew world
+pub counts_few : (world : WorldState) → IsSound world → AreFew world
 counts_few world sound =
     let boxes = boxes_few world sound in
     let owed : total (λ (who : ℕ). owed_in (box_at world who)) (length world.boxes) ≤ 64 * length world.boxes
@@ -71,7 +71,7 @@ counts_few world sound =
     record { owed = omega (arith, boxes, owed); ready = omega (arith, boxes, ready) }
 
 -- those of one box, whether it is there or not
-of_box_few : (world : WorldState) (who : ℕ) (counts : Counts) → IsSound world → who < length world.boxes → AreOfBox (box_at world who) counts → (counts.owed ≤ 64) × (counts.ready ≤ 1)
+pub of_box_few : (world : WorldState) (who : ℕ) (counts : Counts) → IsSound world → who < length world.boxes → AreOfBox (box_at world who) counts → (counts.owed ≤ 64) × (counts.ready ≤ 1)
 of_box_few world who counts sound inside of =
     (rw of.owed (owed_few world who sound inside), rw of.ready (bit_small (is_enabled (box_at world who) Shift)))
 
@@ -90,7 +90,7 @@ turn_inside world next turn goes =
     box_inside world turn.who (if_some (nat_lt turn.who (length world.boxes)) (step_by world turn.who turn.event) next goes).0
 
 -- one value alone changes
-changed : (f g : ℕ → ℕ) (k s all less more result : ℕ) → s < k → ((t : ℕ) → t < k → t ≢ s → f t ≡ g t) → all ≡ total g k → less ≡ g s → more ≡ f s → result ≡ all - less + more → result ≡ total f k
+pub changed : (f g : ℕ → ℕ) (k s all less more result : ℕ) → s < k → ((t : ℕ) → t < k → t ≢ s → f t ≡ g t) → all ≡ total g k → less ≡ g s → more ≡ f s → result ≡ all - less + more → result ≡ total f k
 changed f g k s all less more result inside same all_is less_is more_is is =
     let one : total f k + g s ≡ total g k + f s = total_one f g k s inside same in
     let within : g s ≤ total g k = total_has g k s inside in
@@ -114,11 +114,11 @@ step_counts world next turn all less more result sound goes counted was is owed 
 -- ---- no box has an enabled Shift
 
 -- of a sum with a first value
-none_by : (b more : Bool) (rest all : ℕ) → all ≡ bit b + rest → (rest == 0) ≡ not more → (all == 0) ≡ not (b || more)
+pub none_by : (b more : Bool) (rest all : ℕ) → all ≡ bit b + rest → (rest == 0) ≡ not more → (all == 0) ≡ not (b || more)
 none_by true more rest all is none = grind (arith, common_steps)
 none_by false more rest all is none = ap (λ (n : ℕ). n == 0) (let same : all ≡ rest = omega (arith, is) in same) ∙ none
 
-none_ready : (boxes : List BoxState) → (total (λ (who : ℕ). ready_in (get_or boxes who no_box)) (length boxes) == 0) ≡ not (list_any (λ (box : BoxState). is_enabled box Shift) boxes)
+pub none_ready : (boxes : List BoxState) → (total (λ (who : ℕ). ready_in (get_or boxes who no_box)) (length boxes) == 0) ≡ not (list_any (λ (box : BoxState). is_enabled box Shift) boxes)
 none_ready [] = refl
 none_ready (box ∷ boxes) =
     none_by (is_enabled box Shift) (list_any (λ (one : BoxState). is_enabled one Shift) boxes) (total (λ (who : ℕ). ready_in (get_or boxes who no_box)) (length boxes))

@@ -42,15 +42,15 @@ use Rattle.mc_replay.proofs.Serving.{retried_serves, serves_retried}
 
 -- ---- the present moment
 
-none_by : (left : List Turn) → (length left == 0) ≡ true → left ≡ []
+pub none_by : (left : List Turn) → (length left == 0) ≡ true → left ≡ []
 none_by [] is = refl
 none_by (turn ∷ left) is = absurd (let none : length (turn ∷ left) ≡ 0 = grind (arith, common_steps) in omega (arith, none))
 
-zero_by : (left : List Turn) → left ≡ [] → (length left == 0) ≡ true
+pub zero_by : (left : List Turn) → left ≡ [] → (length left == 0) ≡ true
 zero_by left is = ap (λ (l : List Turn). length l == 0) is
 
 -- it is kept exactly where the world rests and nothing is left
-kept_now : (begins last : WorldState) (batch turns left : List Turn) (before : ℕ) (old new : List QuietMoment) (retries : Retries) (owed : ℕ) → run begins turns ≡ Some last → AreCommands left
+pub kept_now : (begins last : WorldState) (batch turns left : List Turn) (before : ℕ) (old new : List QuietMoment) (retries : Retries) (owed : ℕ) → run begins turns ≡ Some last → AreCommands left
     → ((who : ℕ) → commands_of who turns ++ commands_of who left ≡ commands_of who batch) → AreMomentsBefore begins batch turns before old → retries.made ≡ before + retry_count turns → owed ≡ owed_count last
     → new ≡ (if rests last && length left == 0 then old ++ record { retries = retries.made; owed = owed } ∷ [] else old) → AreMoments begins batch turns before new
 kept_now begins last batch turns left before old new retries owed goes all commands moments made owed_is is =
@@ -89,7 +89,7 @@ follows_begin world batch segment old same sound allowed kept left counted numbe
 
 -- ---- one turn more
 
-slots_same : (one two : WorldState) → one.channels ≡ two.channels → slot_count one ≡ slot_count two
+pub slots_same : (one two : WorldState) → one.channels ≡ two.channels → slot_count one ≡ slot_count two
 slots_same one two same = ap (λ (channels : List ChannelState). length (places_among channels)) same
 
 pub follows_more : (begins : WorldState) (batch turns : List Turn) (turn : Turn) (old new : Segment) (forgotten : List QuietMoment) → Follows begins batch turns old → IsSound old.world → step old.world turn ≡ Some new.world → AreCounted new.world new.counts
@@ -147,7 +147,7 @@ tried_makes (NoMemory e) result begins world batch turns turn counts old new is 
 -- ---- settling
 
 -- the first value passes, or a later one
-any_by : (b : Bool) (p : QuietMoment → Bool) (x : QuietMoment) (xs : List QuietMoment) → p x ≡ b → (list_any p xs ≡ true → (i : ℕ) × (i < length xs) × (p (get_or xs i no_moment) ≡ true)) → list_any p (x ∷ xs) ≡ true
+pub any_by : (b : Bool) (p : QuietMoment → Bool) (x : QuietMoment) (xs : List QuietMoment) → p x ≡ b → (list_any p xs ≡ true → (i : ℕ) × (i < length xs) × (p (get_or xs i no_moment) ≡ true)) → list_any p (x ∷ xs) ≡ true
     → (i : ℕ) × (i < length (x ∷ xs)) × (p (get_or (x ∷ xs) i no_moment) ≡ true)
 any_by true p x xs is later any = (zero, omega arith, is)
 any_by false p x xs is later any =
@@ -155,12 +155,12 @@ any_by false p x xs is later any =
     (suc rest.0, omega (arith, rest.1), rest.2)
 
 -- a value that passes, by its place
-any_at : (p : QuietMoment → Bool) (xs : List QuietMoment) → list_any p xs ≡ true → (i : ℕ) × (i < length xs) × (p (get_or xs i no_moment) ≡ true)
+pub any_at : (p : QuietMoment → Bool) (xs : List QuietMoment) → list_any p xs ≡ true → (i : ℕ) × (i < length xs) × (p (get_or xs i no_moment) ≡ true)
 any_at p [] any = absurd (cc)
 any_at p (x ∷ xs) any = any_by (p x) p x xs refl (λ later. any_at p xs later) any
 
 -- what a moment that serves says
-serves_says : (moment : QuietMoment) (retries : Retries) → serves moment retries ≡ true → (retries.low ≤ moment.retries) × (retries.made - moment.retries ≡ moment.owed)
+pub serves_says : (moment : QuietMoment) (retries : Retries) → serves moment retries ≡ true → (retries.low ≤ moment.retries) × (retries.made - moment.retries ≡ moment.owed)
 serves_says moment retries is = let both = both_true (nat_le retries.low moment.retries) (retries.made - moment.retries == moment.owed) is in (low_by retries.low moment.retries both.0, same_by (retries.made - moment.retries) moment.owed both.1)
   where
     low_by : (a b : ℕ) → nat_le a b ≡ true → a ≤ b
@@ -169,7 +169,7 @@ serves_says moment retries is = let both = both_true (nat_le retries.low moment.
     same_by : (a b : ℕ) → (a == b) ≡ true → a ≡ b
     same_by a b is = grind (arith, common_steps)
 
-says_serves : (moment : QuietMoment) (retries : Retries) → retries.low ≤ moment.retries → retries.made - moment.retries ≡ moment.owed → serves moment retries ≡ true
+pub says_serves : (moment : QuietMoment) (retries : Retries) → retries.low ≤ moment.retries → retries.made - moment.retries ≡ moment.owed → serves moment retries ≡ true
 says_serves moment retries low same = both_there (nat_le retries.low moment.retries) (retries.made - moment.retries == moment.owed) (low_test retries.low moment.retries low) (same_test (retries.made - moment.retries) moment.owed same)
   where
     low_test : (a b : ℕ) → a ≤ b → nat_le a b ≡ true
@@ -179,7 +179,7 @@ says_serves moment retries low same = both_there (nat_le retries.low moment.retr
     same_test a b is = grind (arith, common_steps)
 
 -- the retries up to a moment, and those after it
-retries_parts : (turns : List Turn) (n : ℕ) → retry_count turns ≡ retry_count (take n turns) + retry_count (drop n turns)
+pub retries_parts : (turns : List Turn) (n : ℕ) → retry_count turns ≡ retry_count (take n turns) + retry_count (drop n turns)
 retries_parts turns n = ap retry_count (sym (take-append-drop n turns)) ∙ sum_by-append (λ (t : Turn). if is_retry t.event then 1 else 0) (take n turns) (drop n turns)
 
 pub settled_here : (begins : WorldState) (batch turns : List Turn) (segment : Segment) → Follows begins batch turns segment → is_last segment ≡ true → has_ring segment.world ≡ false → IsSettled begins batch turns segment.world

@@ -1,18 +1,18 @@
-mod Commands
-mod CountsKept
+pub mod Commands
+pub mod CountsKept
 mod Faults
-mod Followed
+pub mod Followed
 pub mod Good
 pub mod Holds
 pub mod Limited
 mod Lines
-mod MomentsKept
+pub mod MomentsKept
 mod Parts
-mod Prefixes
-mod Quiet
+pub mod Prefixes
+pub mod Quiet
 mod Reading
-mod RetriesKept
-mod Serving
+pub mod RetriesKept
+pub mod Serving
 mod Stands
 mod ToldLines
 pub mod Places

@@ -15,7 +15,7 @@ use Rattle.mc_replay.specs.declared.moments.QuietMoment.{QuietMoment}
 use Rattle.mc_replay.proofs.Prefixes.{after_is, drop_before, drop_end, longer, take_before, take_end}
 
 -- a moment that is one of those that are kept
-abbrev Kept : WorldState → List Turn → ℕ → List QuietMoment → ℕ → Type 0
+abbrev pub Kept : WorldState → List Turn → ℕ → List QuietMoment → ℕ → Type 0
 Kept world turns before moments n = (i : ℕ) × (i < length moments) × IsKeptOf world turns before n (get_or moments i no_moment)
 
 -- each that is kept is a moment, and each moment before the present is kept
@@ -25,17 +25,17 @@ pub record AreMomentsBefore (world : WorldState) (batch turns : List Turn) (befo
 
 -- ---- the present
 
-get_first : (xs : List QuietMoment) (x : QuietMoment) (i : ℕ) → i < length xs → get_or (xs ++ x ∷ []) i no_moment ≡ get_or xs i no_moment
+pub get_first : (xs : List QuietMoment) (x : QuietMoment) (i : ℕ) → i < length xs → get_or (xs ++ x ∷ []) i no_moment ≡ get_or xs i no_moment
 get_first [] x i inside = absurd (omega (arith, inside))
 get_first (y ∷ xs) x zero inside = refl
 get_first (y ∷ xs) x (suc i) inside = get_first xs x i (omega (arith, inside))
 
-get_last : (xs : List QuietMoment) (x : QuietMoment) → get_or (xs ++ x ∷ []) (length xs) no_moment ≡ x
+pub get_last : (xs : List QuietMoment) (x : QuietMoment) → get_or (xs ++ x ∷ []) (length xs) no_moment ≡ x
 get_last [] x = refl
 get_last (y ∷ xs) x = get_last xs x
 
 -- what is kept of the present
-now_kept : (world last : WorldState) (turns : List Turn) (before n : ℕ) (kept : QuietMoment) → run world turns ≡ Some last → kept.retries ≡ before + retry_count turns → kept.owed ≡ owed_count last → n ≡ length turns → IsKeptOf world turns before n kept
+pub now_kept : (world last : WorldState) (turns : List Turn) (before n : ℕ) (kept : QuietMoment) → run world turns ≡ Some last → kept.retries ≡ before + retry_count turns → kept.owed ≡ owed_count last → n ≡ length turns → IsKeptOf world turns before n kept
 now_kept world last turns before n kept goes retries owed end =
     let all : take n turns ≡ turns = take_end turns n end in
     record {
@@ -60,7 +60,7 @@ moment_now world last batch turns n goes end moment =
     let all : take n turns ≡ turns = take_end turns n end in
     (ap rests (sym (after_is world last turns goes)) ∙ (ap (λ (l : List Turn). rests (after world l)) (sym all) ∙ moment.at_rest), λ who. ap (commands_of who) (sym all) ∙ moment.used_up who)
 
-kept_by : (now : Bool) (world last : WorldState) (batch turns : List Turn) (before : ℕ) (old : List QuietMoment) (kept : QuietMoment) → run world turns ≡ Some last → AreMomentsBefore world batch turns before old
+pub kept_by : (now : Bool) (world last : WorldState) (batch turns : List Turn) (before : ℕ) (old : List QuietMoment) (kept : QuietMoment) → run world turns ≡ Some last → AreMomentsBefore world batch turns before old
     → kept.retries ≡ before + retry_count turns → kept.owed ≡ owed_count last
     → (now ≡ true → IsMoment world batch turns (length turns)) → ((n : ℕ) → n ≡ length turns → IsMoment world batch turns n → now ≡ true)
     → AreMoments world batch turns before (if now then old ++ kept ∷ [] else old)
@@ -110,7 +110,7 @@ no_moments world batch before = record {
 -- ---- one turn more
 
 -- after a Take or a retry a moment stays one
-moment_stays : (world : WorldState) (batch turns : List Turn) (turn : Turn) (n : ℕ) → takes_or_retries turn.event ≡ true → IsMoment world batch turns n → IsMoment world batch (turns ++ turn ∷ []) n
+pub moment_stays : (world : WorldState) (batch turns : List Turn) (turn : Turn) (n : ℕ) → takes_or_retries turn.event ≡ true → IsMoment world batch turns n → IsMoment world batch (turns ++ turn ∷ []) n
 moment_stays world batch turns turn n besides moment =
     let same = take_before turns turn n moment.within in
     record {
@@ -122,7 +122,7 @@ moment_stays world batch turns turn n besides moment =
     }
 
 -- and a moment from before was one, and after it comes a Take or a retry
-moment_was : (world : WorldState) (batch turns : List Turn) (turn : Turn) (n : ℕ) → n ≤ length turns → IsMoment world batch (turns ++ turn ∷ []) n → IsMoment world batch turns n × (takes_or_retries turn.event ≡ true)
+pub moment_was : (world : WorldState) (batch turns : List Turn) (turn : Turn) (n : ℕ) → n ≤ length turns → IsMoment world batch (turns ++ turn ∷ []) n → IsMoment world batch turns n × (takes_or_retries turn.event ≡ true)
 moment_was world batch turns turn n within moment =
     let same = take_before turns turn n within in
     let all : (all_besides (drop n turns) && all_besides (turn ∷ [])) ≡ true =
@@ -138,7 +138,7 @@ moment_was world batch turns turn n within moment =
     )
 
 -- what is kept of it is kept of the longer list
-kept_stays : (world : WorldState) (turns : List Turn) (turn : Turn) (before n : ℕ) (kept : QuietMoment) → n ≤ length turns → IsKeptOf world turns before n kept → IsKeptOf world (turns ++ turn ∷ []) before n kept
+pub kept_stays : (world : WorldState) (turns : List Turn) (turn : Turn) (before n : ℕ) (kept : QuietMoment) → n ≤ length turns → IsKeptOf world turns before n kept → IsKeptOf world (turns ++ turn ∷ []) before n kept
 kept_stays world turns turn before n kept within is =
     let same = sym (take_before turns turn n within) in
     record {
@@ -147,7 +147,7 @@ kept_stays world turns turn before n kept within is =
     }
 
 -- a command and a Shift leave none of those that came before
-forgotten : (b : Bool) (world : WorldState) (batch turns : List Turn) (turn : Turn) (before : ℕ) (old : List QuietMoment) → takes_or_retries turn.event ≡ b → AreMoments world batch turns before old
+pub forgotten : (b : Bool) (world : WorldState) (batch turns : List Turn) (turn : Turn) (before : ℕ) (old : List QuietMoment) → takes_or_retries turn.event ≡ b → AreMoments world batch turns before old
     → AreMomentsBefore world batch (turns ++ turn ∷ []) before (if b then old else [])
 forgotten true world batch turns turn before old is moments = record {
   each = λ i inside.

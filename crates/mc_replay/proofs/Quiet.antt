@@ -16,29 +16,29 @@ use Rattle.mc_world.specs.Waiting.{CountsTakes, bit, take_waits, waiting_count}
 
 -- ---- a sum that is 0
 
-sum_first : (x : ℕ) (xs : List ℕ) → sum (x ∷ xs) ≡ x + sum xs
+pub sum_first : (x : ℕ) (xs : List ℕ) → sum (x ∷ xs) ≡ x + sum xs
 sum_first x xs = grind (arith, common_steps)
 
-sum_zero : (xs : List ℕ) (t : ℕ) → sum xs ≡ 0 → get_or xs t 0 ≡ 0
+pub sum_zero : (xs : List ℕ) (t : ℕ) → sum xs ≡ 0 → get_or xs t 0 ≡ 0
 sum_zero [] t none = refl
 sum_zero (x ∷ xs) zero none = omega (arith, sum_first x xs, none)
 sum_zero (x ∷ xs) (suc t) none = sum_zero xs t (omega (arith, sum_first x xs, none))
 
-zero_sum : (xs : List ℕ) → ((t : ℕ) → t < length xs → get_or xs t 0 ≡ 0) → sum xs ≡ 0
+pub zero_sum : (xs : List ℕ) → ((t : ℕ) → t < length xs → get_or xs t 0 ≡ 0) → sum xs ≡ 0
 zero_sum [] none = refl
 zero_sum (x ∷ xs) none = omega (arith, sum_first x xs, none 0 (omega arith), zero_sum xs (λ t below. none (suc t) (omega arith)))
 
 -- ---- where no signal waits
 
-bit_none : (b : Bool) → bit b ≡ 0 → b ≡ false
+pub bit_none : (b : Bool) → bit b ≡ 0 → b ≡ false
 bit_none true is = absurd (omega (arith, is))
 bit_none false is = refl
 
-no_value : (o : Option Signal) → is_some o ≡ false → o ≡ None
+pub no_value : (o : Option Signal) → is_some o ≡ false → o ≡ None
 no_value None is = refl
 no_value (Some x) is = absurd (cc)
 
-front_none : (world : WorldState) (counts : List ℕ) (s : ℕ) → IsSound world → CountsTakes world counts → sum counts ≡ 0 → s < slot_count world → front world s ≡ None
+pub front_none : (world : WorldState) (counts : List ℕ) (s : ℕ) → IsSound world → CountsTakes world counts → sum counts ≡ 0 → s < slot_count world → front world s ≡ None
 front_none world counts s sound takes none inside =
     let who : ℕ = (place world s).0 in
     let local : ℕ = (place world s).1 in
@@ -50,23 +50,23 @@ front_none world counts s sound takes none inside =
 
 -- ---- where nothing is under way
 
-empty_is : (lane : List Tagged) → is_empty lane ≡ true → lane ≡ []
+pub empty_is : (lane : List Tagged) → is_empty lane ≡ true → lane ≡ []
 empty_is [] is = refl
 empty_is (tagged ∷ rest) is = absurd (cc)
 
-lane_none : (lanes : List (List Tagged)) (lane : ℕ) → list_all is_empty lanes ≡ true → get_or lanes lane [] ≡ []
+pub lane_none : (lanes : List (List Tagged)) (lane : ℕ) → list_all is_empty lanes ≡ true → get_or lanes lane [] ≡ []
 lane_none [] lane all = refl
 lane_none (first ∷ lanes) zero all = empty_is first (grind (arith, common_steps))
 lane_none (first ∷ lanes) (suc lane) all = lane_none lanes lane (grind (arith, common_steps))
 
-quiet_front : (world : WorldState) (s : ℕ) → is_quiet world ≡ true → front world s ≡ None
+pub quiet_front : (world : WorldState) (s : ℕ) → is_quiet world ≡ true → front world s ≡ None
 quiet_front world s quiet = ap (front_for (tunnel_of world s).within) (lane_none world.lanes (lane_of world s) quiet)
 
-waits_by : (o : Option ℕ) (world : WorldState) → is_quiet world ≡ true → is_some (option_and_then (front world) o) ≡ false
+pub waits_by : (o : Option ℕ) (world : WorldState) → is_quiet world ≡ true → is_some (option_and_then (front world) o) ≡ false
 waits_by None world quiet = refl
 waits_by (Some s) world quiet = ap is_some (quiet_front world s quiet)
 
-quiet_none : (world : WorldState) (counts : List ℕ) → CountsTakes world counts → is_quiet world ≡ true → sum counts ≡ 0
+pub quiet_none : (world : WorldState) (counts : List ℕ) → CountsTakes world counts → is_quiet world ≡ true → sum counts ≡ 0
 quiet_none world counts takes quiet =
     zero_sum counts (λ who below.
     let inside : who < length world.boxes = omega (arith, takes.long, below) in
@@ -75,7 +75,7 @@ quiet_none world counts takes quiet =
 
 -- ---- both
 
-same_test : (n : ℕ) (b : Bool) → (n ≡ 0 → b ≡ true) → (b ≡ true → n ≡ 0) → (n == 0) ≡ b
+pub same_test : (n : ℕ) (b : Bool) → (n ≡ 0 → b ≡ true) → (b ≡ true → n ≡ 0) → (n == 0) ≡ b
 same_test zero true forth back = refl
 same_test zero false forth back = sym (forth refl)
 same_test (suc n) true forth back = absurd (let none = back refl in omega (arith, none))

@@ -25,7 +25,7 @@ use Rattle.mc_replay.proofs.Prefixes.{before_or_end, count_more, drop_before, dr
 -- ---- a retry that goes
 
 -- its slot is there, and owes it
-owes_by : (event : Event) (world next : WorldState) (who local : ℕ) → event ≡ Retry local → nat_lt who (length world.boxes) ≡ true → step_by world who event ≡ Some next → IsTrue (world_owes world who local)
+pub owes_by : (event : Event) (world next : WorldState) (who local : ℕ) → event ≡ Retry local → nat_lt who (length world.boxes) ≡ true → step_by world who event ≡ Some next → IsTrue (world_owes world who local)
 owes_by (Take l) world next who local is below goes = absurd (cc)
 owes_by (Set change) world next who local is below goes = absurd (cc)
 owes_by (Media change) world next who local is below goes = absurd (cc)
@@ -56,17 +56,17 @@ owes_there world who local owes =
     record { box = box_inside world who two.0; slot = slot_inside (box_at world who) local two.1; owes = one.1 }
 
 -- and has a number
-there_number : (world : WorldState) (who local : ℕ) → IsSound world → IsThere world who local → (s : ℕ) × (s < slot_count world) × (number world who local ≡ Some s)
+pub there_number : (world : WorldState) (who local : ℕ) → IsSound world → IsThere world who local → (s : ℕ) × (s < slot_count world) × (number world who local ≡ Some s)
 there_number world who local sound there =
     let found = sound.numbered.all who local there.box there.slot in
     (found.0, found.1, subst (λ (p : ℕ × ℕ). number world p.0 p.1 ≡ Some found.0) found.2 (sound.numbered.once found.0 found.1))
 
 -- ---- tests
 
-same_by : (a b : ℕ) → (a == b) ≡ true → a ≡ b
+pub same_by : (a b : ℕ) → (a == b) ≡ true → a ≡ b
 same_by a b is = grind (arith, common_steps)
 
-test_both : (a b c d : ℕ) → a ≡ b → c ≡ d → (a == b && c == d) ≡ true
+pub test_both : (a b c d : ℕ) → a ≡ b → c ≡ d → (a == b && c == d) ≡ true
 test_both a b c d one two = grind (arith, common_steps)
 
 -- the turn is the retry of no slot
@@ -88,19 +88,19 @@ is_of turn l who local is = ap (λ (e : Event). is_retry_at local e && turn.who 
 -- ---- a turn that is no retry
 
 -- a number of passing turns that doesn't change
-count_same : (p : Turn → Bool) (turns : List Turn) (turn : Turn) → p turn ≡ false → count_by p (turns ++ turn ∷ []) ≡ count_by p turns
+pub count_same : (p : Turn → Bool) (turns : List Turn) (turn : Turn) → p turn ≡ false → count_by p (turns ++ turn ∷ []) ≡ count_by p turns
 count_same p turns turn none =
     let more = count_more p turns turn in
     let zero : ◌≡◌ {A = ℕ} (cond (p turn) 1 0) 0 = ap (λ (b : Bool). cond b 1 0) none in
     omega (arith, more, zero)
 
-count_one : (p : Turn → Bool) (turns : List Turn) (turn : Turn) → p turn ≡ true → count_by p (turns ++ turn ∷ []) ≡ count_by p turns + 1
+pub count_one : (p : Turn → Bool) (turns : List Turn) (turn : Turn) → p turn ≡ true → count_by p (turns ++ turn ∷ []) ≡ count_by p turns + 1
 count_one p turns turn one =
     let more = count_more p turns turn in
     let is : ◌≡◌ {A = ℕ} (cond (p turn) 1 0) 1 = ap (λ (b : Bool). cond b 1 0) one in
     omega (arith, more, is)
 
-other_retries : (world : WorldState) (turns : List Turn) (turn : Turn) (before : ℕ) (retries : Retries) → is_retry turn.event ≡ false → AreNumbered (slot_count world) retries → AreRetries world turns before retries
+pub other_retries : (world : WorldState) (turns : List Turn) (turn : Turn) (before : ℕ) (retries : Retries) → is_retry turn.event ≡ false → AreNumbered (slot_count world) retries → AreRetries world turns before retries
     → AreRetries world (turns ++ turn ∷ []) before retries
 other_retries world turns turn before retries is numbered kept =
     let made : retries.made ≡ before + retry_count (turns ++ turn ∷ []) = omega (arith, kept.made, count_same (λ (t : Turn). is_retry t.event) turns turn is) in
@@ -139,24 +139,24 @@ other_retries world turns turn before retries is numbered kept =
 -- ---- a retry
 
 -- no more come up to a moment than in all
-count_taken : (n : ℕ) (turns : List Turn) → retry_count (take n turns) ≤ retry_count turns
+pub count_taken : (n : ℕ) (turns : List Turn) → retry_count (take n turns) ≤ retry_count turns
 count_taken n turns = sum_by-take-le (λ (t : Turn). cond (is_retry t.event) 1 0) turns n
 
 -- what is known of it: its slot, by its place and by its number
-record Retried (world : WorldState) (turn : Turn) (s : ℕ) : Type 0 where
+pub record Retried (world : WorldState) (turn : Turn) (s : ℕ) : Type 0 where
   local : ℕ
   event : turn.event ≡ Retry local
   inside : s < slot_count world
   at : number world turn.who local ≡ Some s
 
 -- it is the retry of that slot
-own_retry : (world : WorldState) (turn : Turn) (s : ℕ) → (one : Retried world turn s) → is_retry_of (place world s).0 (place world s).1 turn ≡ true
+pub own_retry : (world : WorldState) (turn : Turn) (s : ℕ) → (one : Retried world turn s) → is_retry_of (place world s).0 (place world s).1 turn ≡ true
 own_retry world turn s one =
     let is = number_is world turn.who one.local s one.at in
     is_of turn one.local (place world s).0 (place world s).1 one.event ∙ test_both one.local (place world s).1 turn.who (place world s).0 (sym is.2) (sym is.1)
 
 -- and of no other
-other_retry : (b : Bool) (world : WorldState) (turn : Turn) (s t : ℕ) → IsSound world → (one : Retried world turn s) → t < slot_count world → t ≢ s → (one.local == (place world t).1 && turn.who == (place world t).0) ≡ b → b ≡ false
+pub other_retry : (b : Bool) (world : WorldState) (turn : Turn) (s t : ℕ) → IsSound world → (one : Retried world turn s) → t < slot_count world → t ≢ s → (one.local == (place world t).1 && turn.who == (place world t).0) ≡ b → b ≡ false
 other_retry false world turn s t sound one inside apart test = refl
 other_retry true world turn s t sound one inside apart test =
     let both = both_true (one.local == (place world t).1) (turn.who == (place world t).0) test in
@@ -167,14 +167,14 @@ other_retry true world turn s t sound one inside apart test =
     absurd (apart (some_same t s (sym there ∙ one.at)))
 
 -- a turn that is the retry of a slot of this box is that of the slot with the number
-of_number : (world : WorldState) (turn : Turn) (s who local : ℕ) → (one : Retried world turn s) → is_retry_of who local turn ≡ true → (who ≡ (place world s).0) × (local ≡ (place world s).1)
+pub of_number : (world : WorldState) (turn : Turn) (s who local : ℕ) → (one : Retried world turn s) → is_retry_of who local turn ≡ true → (who ≡ (place world s).0) × (local ≡ (place world s).1)
 of_number world turn s who local one is =
     let both = both_true (one.local == local) (turn.who == who) (sym (is_of turn one.local who local one.event) ∙ is) in
     let at = number_is world turn.who one.local s one.at in
     (sym (same_by turn.who who both.1) ∙ sym at.1, sym (same_by one.local local both.0) ∙ sym at.2)
 
 -- no slot is retried twice where one more retry comes, exactly where none was before and that slot wasn't
-once_more : (world : WorldState) (turns : List Turn) (turn : Turn) (s : ℕ) → Retried world turn s → AreRetriedOnce turns → retries_at world s turns ≡ 0 → AreRetriedOnce (turns ++ turn ∷ [])
+pub once_more : (world : WorldState) (turns : List Turn) (turn : Turn) (s : ℕ) → Retried world turn s → AreRetriedOnce turns → retries_at world s turns ≡ 0 → AreRetriedOnce (turns ++ turn ∷ [])
 once_more world turns turn s one once none who local = by (is_retry_of who local turn) refl
   where
     by : (b : Bool) → is_retry_of who local turn ≡ b → count_by (is_retry_of who local) (turns ++ turn ∷ []) ≤ 1
@@ -185,12 +185,12 @@ once_more world turns turn s one once none who local = by (is_retry_of who local
         let zero : count_by (is_retry_of who local) turns ≡ 0 = ap (λ (w : ℕ). count_by (is_retry_of w local) turns) at.0 ∙ (ap (λ (l : ℕ). count_by (is_retry_of (place world s).0 l) turns) at.1 ∙ none) in
         omega (arith, more, zero)
 
-once_less : (turns : List Turn) (turn : Turn) → AreRetriedOnce (turns ++ turn ∷ []) → AreRetriedOnce turns
+pub once_less : (turns : List Turn) (turn : Turn) → AreRetriedOnce (turns ++ turn ∷ []) → AreRetriedOnce turns
 once_less turns turn once who local =
     let more = count_more (is_retry_of who local) turns turn in
     omega (arith, more, once who local)
 
-one_retry : (world : WorldState) (turns : List Turn) (turn : Turn) (before s : ℕ) (old new : Retries) → IsSound world → Retried world turn s → AreNumbered (slot_count world) old → WasRetried old new s → AreRetries world turns before old
+pub one_retry : (world : WorldState) (turns : List Turn) (turn : Turn) (before s : ℕ) (old new : Retries) → IsSound world → Retried world turn s → AreNumbered (slot_count world) old → WasRetried old new s → AreRetries world turns before old
     → AreRetries world (turns ++ turn ∷ []) before new
 one_retry world turns turn before s old new sound one numbered was kept =
     let is : is_retry turn.event ≡ true = ap is_retry one.event in
@@ -295,11 +295,11 @@ first_retries world retries count numbered = record {
 -- ---- any turn
 
 -- a slot has one number in worlds of the same channels
-number_same : (one two : WorldState) (who local : ℕ) → one.channels ≡ two.channels → number one who local ≡ number two who local
+pub number_same : (one two : WorldState) (who local : ℕ) → one.channels ≡ two.channels → number one who local ≡ number two who local
 number_same one two who local same = ap (λ (channels : List ChannelState). position (is_place (who, local)) (places_among channels)) same
 
 -- no number is beyond those of the retries so far
-numbers_more : (count s : ℕ) (old new : Retries) → AreNumbered count old → WasRetried old new s → AreNumbered count new
+pub numbers_more : (count s : ℕ) (old new : Retries) → AreNumbered count old → WasRetried old new s → AreNumbered count new
 numbers_more count s old new numbered was = record {
   slots = ap length was.last ∙ (length-set old.last.items s (old.made + 1) ∙ numbered.slots);
   last = λ t. elim (cases_eq t s) [

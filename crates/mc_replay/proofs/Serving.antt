@@ -33,39 +33,39 @@ use Rattle.mc_replay.proofs.RetriesKept.{is_of, not_of, owes_there, retry_owes}
 
 -- ---- a sum over all slots of a world
 
-abbrev over : WorldState → (ℕ → ℕ → ℕ) → ℕ
+abbrev pub over : WorldState → (ℕ → ℕ → ℕ) → ℕ
 over world f = total (λ who. total (f who) (length (box_at world who).slots)) (length world.boxes)
 
 -- equal values have equal sums
-over_same : (world : WorldState) (f g : ℕ → ℕ → ℕ) → ((who local : ℕ) → who < length world.boxes → local < length (box_at world who).slots → f who local ≡ g who local) → over world f ≡ over world g
+pub over_same : (world : WorldState) (f g : ℕ → ℕ → ℕ) → ((who local : ℕ) → who < length world.boxes → local < length (box_at world who).slots → f who local ≡ g who local) → over world f ≡ over world g
 over_same world f g same =
     total_same (λ (who : ℕ). total (f who) (length (box_at world who).slots)) (λ (who : ℕ). total (g who) (length (box_at world who).slots)) (length world.boxes)
     (λ who below. total_same (f who) (g who) (length (box_at world who).slots) (λ local within. same who local below within))
 
-over_plus : (world : WorldState) (f g : ℕ → ℕ → ℕ) → over world (λ who local. f who local + g who local) ≡ over world f + over world g
+pub over_plus : (world : WorldState) (f g : ℕ → ℕ → ℕ) → over world (λ who local. f who local + g who local) ≡ over world f + over world g
 over_plus world f g =
     total_same (λ (who : ℕ). total (λ (local : ℕ). f who local + g who local) (length (box_at world who).slots))
     (λ (who : ℕ). total (f who) (length (box_at world who).slots) + total (g who) (length (box_at world who).slots)) (length world.boxes)
     (λ who below. total_plus (f who) (g who) (length (box_at world who).slots))
     ∙ total_plus (λ (who : ℕ). total (f who) (length (box_at world who).slots)) (λ (who : ℕ). total (g who) (length (box_at world who).slots)) (length world.boxes)
 
-over_none : (world : WorldState) (f : ℕ → ℕ → ℕ) → ((who local : ℕ) → f who local ≡ 0) → over world f ≡ 0
+pub over_none : (world : WorldState) (f : ℕ → ℕ → ℕ) → ((who local : ℕ) → f who local ≡ 0) → over world f ≡ 0
 over_none world f none =
     total_none (λ (who : ℕ). total (f who) (length (box_at world who).slots)) (length world.boxes)
     (λ who below. total_none (f who) (length (box_at world who).slots) (λ local within. none who local))
 
 -- one slot alone has a value
-over_alone : (world : WorldState) (f : ℕ → ℕ → ℕ) (w l : ℕ) → w < length world.boxes → l < length (box_at world w).slots → ((who local : ℕ) → (who ≡ w → local ≡ l → ⊥) → f who local ≡ 0) → over world f ≡ f w l
+pub over_alone : (world : WorldState) (f : ℕ → ℕ → ℕ) (w l : ℕ) → w < length world.boxes → l < length (box_at world w).slots → ((who local : ℕ) → (who ≡ w → local ≡ l → ⊥) → f who local ≡ 0) → over world f ≡ f w l
 over_alone world f w l here inside none =
     total_alone (λ (who : ℕ). total (f who) (length (box_at world who).slots)) (length world.boxes) w here
     (λ who below apart. total_none (f who) (length (box_at world who).slots) (λ local within. none who local (λ same at. apart same)))
     ∙ total_alone (f w) (length (box_at world w).slots) l inside (λ local within apart. none w local (λ same at. apart at))
 
 -- where no value is greater than another, and the sums are equal, all are
-equal_parts : (a b x y : ℕ) → a ≤ x → b ≤ y → a + b ≡ x + y → (a ≡ x) × (b ≡ y)
+pub equal_parts : (a b x y : ℕ) → a ≤ x → b ≤ y → a + b ≡ x + y → (a ≡ x) × (b ≡ y)
 equal_parts a b x y one two both = (omega (arith, one, two, both), omega (arith, one, two, both))
 
-total_equal : (f g : ℕ → ℕ) (k t : ℕ) → ((s : ℕ) → s < k → f s ≤ g s) → total f k ≡ total g k → t < k → f t ≡ g t
+pub total_equal : (f g : ℕ → ℕ) (k t : ℕ) → ((s : ℕ) → s < k → f s ≤ g s) → total f k ≡ total g k → t < k → f t ≡ g t
 total_equal f g zero t each same inside = absurd (omega (arith, inside))
 total_equal f g (suc k) t each same inside =
     let parts = equal_parts (f k) (total f k) (g k) (total g k) (each k (omega arith)) (total_le f g k (λ s below. each s (omega (arith, below)))) same in
@@ -74,7 +74,7 @@ total_equal f g (suc k) t each same inside =
       | inr apart ↦ total_equal f g k t (λ s below. each s (omega (arith, below))) parts.1 (omega (arith, inside, apart))
     ]
 
-over_equal : (world : WorldState) (f g : ℕ → ℕ → ℕ) (w l : ℕ) → ((who local : ℕ) → f who local ≤ g who local) → over world f ≡ over world g → w < length world.boxes → l < length (box_at world w).slots → f w l ≡ g w l
+pub over_equal : (world : WorldState) (f g : ℕ → ℕ → ℕ) (w l : ℕ) → ((who local : ℕ) → f who local ≤ g who local) → over world f ≡ over world g → w < length world.boxes → l < length (box_at world w).slots → f w l ≡ g w l
 over_equal world f g w l each same here inside =
     total_equal (f w) (g w) (length (box_at world w).slots) l (λ local within. each w local)
     (total_equal (λ (who : ℕ). total (f who) (length (box_at world who).slots)) (λ (who : ℕ). total (g who) (length (box_at world who).slots)) (length world.boxes) w
@@ -84,12 +84,12 @@ over_equal world f g w l each same here inside =
 -- ---- all retries of a run are of slots that are there
 
 -- of a turn that is no retry
-none_counted : (world : WorldState) (turn : Turn) → is_retry turn.event ≡ false → over world (λ who local. cond (is_retry_of who local turn) 1 0) ≡ cond (is_retry turn.event) 1 0
+pub none_counted : (world : WorldState) (turn : Turn) → is_retry turn.event ≡ false → over world (λ who local. cond (is_retry_of who local turn) 1 0) ≡ cond (is_retry turn.event) 1 0
 none_counted world turn none =
     over_none world (λ who local. cond (is_retry_of who local turn) 1 0) (λ who local. ap (λ (b : Bool). cond b 1 0) (not_of turn who local none)) ∙ ap (λ (b : Bool). cond b 1 0) (sym none)
 
 -- of a turn
-turn_counted : (event : Event) (world : WorldState) (turn : Turn) → turn.event ≡ event → ((local : ℕ) → turn.event ≡ Retry local → (turn.who < length world.boxes) × (local < length (box_at world turn.who).slots))
+pub turn_counted : (event : Event) (world : WorldState) (turn : Turn) → turn.event ≡ event → ((local : ℕ) → turn.event ≡ Retry local → (turn.who < length world.boxes) × (local < length (box_at world turn.who).slots))
     → over world (λ who local. cond (is_retry_of who local turn) 1 0) ≡ cond (is_retry turn.event) 1 0
 turn_counted (Retry l) world turn is there =
     let at = there l is in
@@ -109,7 +109,7 @@ turn_counted (Tell word) world turn is there = none_counted world turn (ap is_re
 turn_counted Shift world turn is there = none_counted world turn (ap is_retry is)
 
 -- of a run
-run_counted : (turns : List Turn) (world now last : WorldState) → HasShape now world → IsSound now → run now turns ≡ Some last → over world (λ who local. count_by (is_retry_of who local) turns) ≡ retry_count turns
+pub run_counted : (turns : List Turn) (world now last : WorldState) → HasShape now world → IsSound now → run now turns ≡ Some last → over world (λ who local. count_by (is_retry_of who local) turns) ≡ retry_count turns
 run_counted [] world now last shape sound goes = over_none world (λ who local. 0) (λ who local. refl)
 run_counted (turn ∷ turns) world now last shape sound goes =
     let first = then_some (λ (next : WorldState). run next turns) (step now turn) last goes in
@@ -127,19 +127,19 @@ run_counted (turn ∷ turns) world now last shape sound goes =
 -- ---- what is owed
 
 -- of a slot that is there, what a world owes is what its box owes
-owes_here : (world : WorldState) (who local : ℕ) → who < length world.boxes → local < length (box_at world who).slots → world_owes world who local ≡ box_owes (box_at world who) local
+pub owes_here : (world : WorldState) (who local : ℕ) → who < length world.boxes → local < length (box_at world who).slots → world_owes world who local ≡ box_owes (box_at world who) local
 owes_here world who local here inside =
     ap (λ (b : Bool). b && is_slot (box_at world who) local && box_owes (box_at world who) local) (below_test who (length world.boxes) here)
     ∙ ap (λ (b : Bool). b && box_owes (box_at world who) local) (below_test local (length (box_at world who).slots) inside)
 
-owed_counted : (world : WorldState) → over world (λ who local. bit (world_owes world who local)) ≡ owed_count world
+pub owed_counted : (world : WorldState) → over world (λ who local. bit (world_owes world who local)) ≡ owed_count world
 owed_counted world =
     over_same world (λ who local. bit (world_owes world who local)) (λ who local. bit (box_owes (box_at world who) local)) (λ who local below within. ap bit (owes_here world who local below within))
 
 -- ---- retries are owed at the moment
 
 -- the retry of a slot, as it is written
-retry_at : (event : Event) (local : ℕ) → is_retry_at local event ≡ true → event ≡ Retry local
+pub retry_at : (event : Event) (local : ℕ) → is_retry_at local event ≡ true → event ≡ Retry local
 retry_at (Take l) local is = absurd (cc)
 retry_at (Set change) local is = absurd (cc)
 retry_at (Media change) local is = absurd (cc)
@@ -150,7 +150,7 @@ retry_at (Retry l) local is = ap (λ (k : ℕ). Retry k) (same_by l local is)
     same_by : (a b : ℕ) → (a == b) ≡ true → a ≡ b
     same_by a b is = grind (arith, common_steps)
 
-retry_is : (turn : Turn) (who local : ℕ) → is_retry_of who local turn ≡ true → (turn.who ≡ who) × (turn.event ≡ Retry local)
+pub retry_is : (turn : Turn) (who local : ℕ) → is_retry_of who local turn ≡ true → (turn.who ≡ who) × (turn.event ≡ Retry local)
 retry_is turn who local is =
     let both = both_true (is_retry_at local turn.event) (turn.who == who) is in
     (same_by turn.who who both.1, retry_at turn.event local both.0)
@@ -159,7 +159,7 @@ retry_is turn who local is =
     same_by a b is = grind (arith, common_steps)
 
 -- the slot of the next turn, or of a later one
-owed_by : (b : Bool) → OwedSinceQuiet → (past behind : List Turn) (world now next : WorldState) (turn : Turn) (who local : ℕ) → is_retry_of who local turn ≡ b → IsSound world → IsTrue (is_quiet world) → run world past ≡ Some now → all_besides past ≡ true
+pub owed_by : (b : Bool) → OwedSinceQuiet → (past behind : List Turn) (world now next : WorldState) (turn : Turn) (who local : ℕ) → is_retry_of who local turn ≡ b → IsSound world → IsTrue (is_quiet world) → run world past ≡ Some now → all_besides past ≡ true
     → step now turn ≡ Some next → 1 ≤ count_by (is_retry_of who local) (turn ∷ behind) → (1 ≤ count_by (is_retry_of who local) behind → IsTrue (world_owes world who local)) → IsTrue (world_owes world who local)
 owed_by true law past behind world now next turn who local is sound quiet goes besides steps some later =
     let at = retry_is turn who local is in
@@ -171,7 +171,7 @@ owed_by false law past behind world now next turn who local is sound quiet goes 
     later (omega (arith, some, counted, zero))
 
 -- the slot of each retry that comes after a moment owed it then
-owed_then : OwedSinceQuiet → (behind past : List Turn) (world now last : WorldState) (who local : ℕ) → IsSound world → IsTrue (is_quiet world) → run world past ≡ Some now → all_besides past ≡ true
+pub owed_then : OwedSinceQuiet → (behind past : List Turn) (world now last : WorldState) (who local : ℕ) → IsSound world → IsTrue (is_quiet world) → run world past ≡ Some now → all_besides past ≡ true
     → run now behind ≡ Some last → all_besides behind ≡ true → 1 ≤ count_by (is_retry_of who local) behind → IsTrue (world_owes world who local)
 owed_then law [] past world now last who local sound quiet goes besides on all some = absurd (omega (arith, some))
 owed_then law (turn ∷ behind) past world now last who local sound quiet goes besides on all some =
@@ -188,7 +188,7 @@ owed_then law (turn ∷ behind) past world now last who local sound quiet goes b
 abbrev pub Retrieds : WorldState → List Turn → Type 0
 Retrieds world behind = (who local : ℕ) → count_by (is_retry_of who local) behind ≡ (if world_owes world who local then 1 else 0)
 
-counts_most : (owes : Bool) (n : ℕ) → n ≤ 1 → (1 ≤ n → owes ≡ true) → n ≤ bit owes
+pub counts_most : (owes : Bool) (n : ℕ) → n ≤ 1 → (1 ≤ n → owes ≡ true) → n ≤ bit owes
 counts_most true n few owed = few
 counts_most false n few owed = elim (cases_lt n 1) [
   | inl none ↦ omega (arith, none)
@@ -196,7 +196,7 @@ counts_most false n few owed = elim (cases_lt n 1) [
 ]
 
 -- a slot that owed a retry, or didn't
-retried_by : (owes : Bool) (world : WorldState) (behind : List Turn) (who local : ℕ) → world_owes world who local ≡ owes → ((w l : ℕ) → count_by (is_retry_of w l) behind ≤ bit (world_owes world w l))
+pub retried_by : (owes : Bool) (world : WorldState) (behind : List Turn) (who local : ℕ) → world_owes world who local ≡ owes → ((w l : ℕ) → count_by (is_retry_of w l) behind ≤ bit (world_owes world w l))
     → over world (λ w l. count_by (is_retry_of w l) behind) ≡ over world (λ w l. bit (world_owes world w l)) → count_by (is_retry_of who local) behind ≡ (if owes then 1 else 0)
 retried_by true world behind who local is most sums =
     let at = owes_there world who local is in
@@ -213,11 +213,11 @@ serves_retried law world last behind sound quiet goes besides once same who loca
     (λ w l. counts_most (world_owes world w l) (count_by (is_retry_of w l) behind) (once w l) (λ some. owed_then law behind [] world world last w l sound quiet refl refl goes besides some))
     (run_counted behind world world last (same_shape world) sound goes ∙ (same ∙ sym (owed_counted world)))
 
-once_by : (owes : Bool) (n : ℕ) → n ≡ (if owes then 1 else 0) → n ≤ 1
+pub once_by : (owes : Bool) (n : ℕ) → n ≡ (if owes then 1 else 0) → n ≤ 1
 once_by true n is = omega (arith, is)
 once_by false n is = omega (arith, is)
 
-bit_is : (owes : Bool) → (if owes then 1 else 0) ≡ bit owes
+pub bit_is : (owes : Bool) → (if owes then 1 else 0) ≡ bit owes
 bit_is owes = refl
 
 pub retried_serves : (world last : WorldState) (behind : List Turn) → IsSound world → run world behind ≡ Some last → Retrieds world behind → AreRetriedOnce behind × (retry_count behind ≡ owed_count world)

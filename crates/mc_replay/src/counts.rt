@@ -1,4 +1,4 @@
-// How many slots owe a retry, and how many boxes have an enabled Shift, kept while turns are made.
+//! How many slots owe a retry, and how many boxes have an enabled Shift, kept while turns are made.
 
 ghost use Rattle.std.specs.Prelude.{◌≡◌, ◌<◌, ◌≤◌, ◌+◌, ◌-◌, ◌^◌};
 ghost use Rattle.mc_model.specs.Worlds.{box_at};
@@ -7,14 +7,14 @@ ghost use Rattle.mc_replay.specs.Counts.{AreCounted, AreOfBox, owed_in};
 use mc_box::{Event, MediaBox};
 use mc_world::World;
 
-// How many slots owe a retry, and how many boxes have an enabled Shift: of a world, or of one box.
+/// How many slots owe a retry, and how many boxes have an enabled Shift: of a world, or of one box.
 #[derive(Clone, Copy)]
 pub struct Counts {
     pub owed: u64,
     pub ready: u64,
 }
 
-// Those of a world.
+/// Those of a world.
 pub fn count_all(world: &World) -> Counts
     ensures { AreCounted world.now result }
 {
@@ -28,7 +28,7 @@ pub fn count_all(world: &World) -> Counts
     counts
 }
 
-// Those of one box; none of one that isn't there.
+/// Those of one box; none of one that isn't there.
 pub fn counts_of(world: &World, who: u32) -> Counts
     ensures { AreOfBox (box_at world.now who) result }
 {
@@ -59,7 +59,7 @@ fn owed_in(one: &MediaBox) -> u64
     owed
 }
 
-// The counts of a world, where those of one box alone have changed.
+/// The counts of a world, where those of one box alone have changed.
 pub fn recounted(counts: Counts, less: Counts, more: Counts) -> Counts
     requires owed { less.owed ≤ counts.owed }
     requires ready { less.ready ≤ counts.ready }

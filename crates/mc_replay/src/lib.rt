@@ -3,14 +3,14 @@
 #![tactic(auto)]
 
 mod checking;
-mod counts;
+pub mod counts;
 mod fault;
 pub mod laws;
-mod moments;
+pub mod moments;
 mod replay;
-mod retries;
+pub mod retries;
 pub mod rule;
-mod segment;
+pub mod segment;
 mod telling;
 mod viewer;
 

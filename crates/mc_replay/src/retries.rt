@@ -1,4 +1,4 @@
-// The retries of a journal by their running numbers, from 1 on.
+//! The retries of a journal by their running numbers, from 1 on.
 
 ghost use Rattle.std.specs.Prelude.{◌≡◌, ◌<◌, ◌≤◌, ◌+◌, ◌^◌, length, IfOk};
 ghost use Rattle.mc_model.specs.Worlds.{slot_count};
@@ -8,9 +8,9 @@ use mc_box::{Event, Turn};
 use mc_world::World;
 use std::alloc::{AllocError, Global};
 
-// How many retries were made, for each slot the number of its last one (0 where there is none), and the greatest such
-// number of a slot that was retried again. So no slot was retried twice after the first `n` retries where that number
-// is at most `n`.
+/// How many retries were made, for each slot the number of its last one (0 where there is none), and the greatest such
+/// number of a slot that was retried again. So no slot was retried twice after the first `n` retries where that number
+/// is at most `n`.
 #[derive(Drop)]
 pub struct Retries {
     pub made: u64,
@@ -18,7 +18,7 @@ pub struct Retries {
     pub low: u64,
 }
 
-// Where none was made.
+/// Where none was made.
 pub fn no_retries(alloc: Global, world: &World) -> Result<Retries, AllocError>
     ensures numbered { IfOk result (AreNumbered (slot_count world.now)) }
     ensures none { IfOk result (λ retries. retries.made ≡ 0) }
@@ -31,7 +31,7 @@ pub fn no_retries(alloc: Global, world: &World) -> Result<Retries, AllocError>
     })
 }
 
-// Counts a turn that was made, where it is a retry.
+/// Counts a turn that was made, where it is a retry.
 pub fn count_retry(retries: &mut Retries, world: &World, turn: Turn)
     requires slots { length retries.old.last.items ≡ slot_count world.now }
     requires few { retries.old.made + 1 < 2 ^ 64 }

@@ -1,4 +1,4 @@
-// A segment of a journal: the turns since the last settle, replayed one after another.
+//! A segment of a journal: the turns since the last settle, replayed one after another.
 
 ghost use Rattle.std.specs.Prelude.{◌≡◌, ◌↔◌, ◌==◌, ◌&&◌, ◌+◌, ◌<◌, ◌≤◌, ◌^◌, List, [], Some, length, true, IfOk, IsTrue, OnOk};
 ghost use Rattle.mc_box.specs.declared.event.Turn.{Turn};
@@ -21,8 +21,8 @@ use mc_seq::{Commands, all_commands, drop_command, is_command, next_command};
 use mc_world::{StepFault, World};
 use std::alloc::{AllocError, Global};
 
-// Where a segment stands: its world, the commands that are left of its batch, how many slots owe a retry and how many
-// boxes have an enabled Shift, the retries of the whole journal, and the moments that may be the last rest.
+/// Where a segment stands: its world, the commands that are left of its batch, how many slots owe a retry and how many
+/// boxes have an enabled Shift, the retries of the whole journal, and the moments that may be the last rest.
 #[derive(Drop)]
 pub struct Segment {
     pub world: World,
@@ -32,13 +32,14 @@ pub struct Segment {
     pub moments: Vec<QuietMoment>,
 }
 
-// Why a turn isn't made.
+/// Why a turn isn't made.
 #[derive(Drop)]
 pub enum TurnFault {
-    // It is a command, and not the next one of its box.
+    /// It is a command, and not the next one of its box.
     NotNext,
-    // It can't happen now.
+    /// It can't happen now.
     NotEnabled,
+    /// Memory ran out.
     NoMemory(AllocError),
 }
 
@@ -50,7 +51,7 @@ impl From<AllocError> for TurnFault {
     }
 }
 
-// The first segment.
+/// The first segment.
 pub fn begin(alloc: Global, world: World, batch: &[Turn]) -> Result<Segment, AllocError>
     requires { AreAllowed world batch.now }
     ensures follows { IfOk result (Follows world batch.now []) }
@@ -86,8 +87,8 @@ fn first_parts(
     Ok((left, counts, retries, moments))
 }
 
-// Keeps a moment at which the world rests and the batch is used up.
-fn keep_moment(
+/// Keeps a moment at which the world rests and the batch is used up.
+pub fn keep_moment(
     moments: &mut Vec<QuietMoment>,
     world: &World,
     left: &Commands,
@@ -118,7 +119,7 @@ fn rests(world: &World, counts: Counts) -> bool
 }
 
 impl Segment {
-    // The next segment, which begins where this one has ended.
+    /// The next segment, which begins where this one has ended.
     pub fn go_on(&mut self, alloc: Global, batch: &[Turn]) -> Result<(), AllocError>
         requires stands { Stands self.old }
         requires allowed { AreAllowed self.old.world batch.now }
@@ -139,7 +140,7 @@ impl Segment {
         Ok(())
     }
 
-    // Makes a turn.
+    /// Makes a turn.
     pub fn make(&mut self, turn: Turn) -> Result<(), TurnFault>
         requires stands { Stands self.old }
         requires few { self.old.retries.made + 1 < 2 ^ 64 }
@@ -166,7 +167,7 @@ impl Segment {
         Ok(())
     }
 
-    // Whether the turns have settled the batch.
+    /// Whether the turns have settled the batch.
     pub fn is_settled(&mut self) -> bool
         requires { Stands self.old }
         ensures same { self.new ≡ self.old }
@@ -216,8 +217,8 @@ fn drop_made(left: &mut Commands, turn: Turn)
     }
 }
 
-// Makes a turn, and counts its box anew. No other box changes.
-fn step(world: &mut World, counts: &mut Counts, turn: Turn) -> Result<(), TurnFault>
+/// Makes a turn, and counts its box anew. No other box changes.
+pub fn step(world: &mut World, counts: &mut Counts, turn: Turn) -> Result<(), TurnFault>
     requires { AreCounted world.old counts.old }
     ensures { TriedStep world.old world.new counts.new turn result }
 {
