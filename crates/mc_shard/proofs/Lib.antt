@@ -1,5 +1,7 @@
 pub mod Counts
-pub mod Shaped
-pub mod Same
 pub mod Growing
+pub mod Loaded
+pub mod Owed
 pub mod Owned
+pub mod Same
+pub mod Shaped

@@ -1,6 +1,8 @@
 pub mod Digests
 pub mod Journals
-pub mod States
-pub mod Shards
+pub mod Loading
+pub mod Owing
 pub mod Refusals
 pub mod Same
+pub mod Shards
+pub mod States

@@ -65,7 +65,7 @@ fn act_box(
 
 impl ShardParts {
     /// An event that takes nothing, and that this request asked for, with this stamp.
-    pub fn make_act(
+    pub(crate) fn make_act(
         &mut self,
         alloc: Global,
         asked: Option<Asked>,
@@ -146,7 +146,7 @@ impl ShardParts {
     }
 
     /// A request, as `Shard::request` says.
-    pub fn request(
+    pub(crate) fn request(
         &mut self,
         alloc: Global,
         asked: Option<Asked>,

@@ -23,7 +23,7 @@ pub struct ShardParts {
 
 impl ShardParts {
     /// The parts of a shard that made no turn yet.
-    pub fn new(
+    pub(crate) fn new(
         alloc: Global,
         boxes: Vec<MediaBox>,
         places: Vec<SlotPlaces>,

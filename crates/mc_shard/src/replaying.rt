@@ -152,7 +152,7 @@ impl ShardParts {
     }
 
     /// A journal made again, as `Shard::replay` says.
-    pub fn replay(&mut self, alloc: Global, journal: &[Entry]) -> Result<(), ReplayRefused>
+    pub(crate) fn replay(&mut self, alloc: Global, journal: &[Entry]) -> Result<(), ReplayRefused>
         requires { IsShaped (shard_of self.old) }
         ensures shaped { IsShaped (shard_of self.new) }
         ensures is { OnOk result (IsJournal self.old.places.items (shard_of self.old).state journal.now) }

@@ -2,7 +2,7 @@
 
 ghost use Rattle.std.specs.Prelude.{◌≡◌, ◌<◌, ◌≤◌, length, IfErr, IfOk, IfSome, MatchOption, OnErr, Ok, Err, None};
 ghost use Rattle.mc_shard.specs.Refusals.{HindersAsked, HindersTake, IsAskedAhead, LacksAsker, RefusesAt, WasAsked};
-ghost use Rattle.mc_shard.specs.Shards.{AreLaid, IsMade, IsOf, IsShaped, IsTaking, first_state, stamp_above};
+ghost use Rattle.mc_shard.specs.Shards.{AreLaid, IsMade, IsOf, IsShaped, IsTaking, first_state, shard_of, stamp_above};
 ghost use Rattle.mc_shard.specs.States.{IsJournal, count_at, state_after};
 ghost use Rattle.mc_shard.specs.declared.limit.TheConstants.{SENT_LIMIT};
 
@@ -53,6 +53,24 @@ impl Shard {
         Ok(Shard {
             parts: ShardParts::new(alloc, boxes, places, owners, askers)?,
         })
+    }
+
+    /// The shard that has these parts, as of one that was written down. None where no shard keeps such parts: they
+    /// don't fit together, the stamp is past the last one, or more was sent or taken than so many turns can.
+    pub fn from_parts(parts: ShardParts) -> Option<Shard>
+        ensures { MatchOption result (IsShaped (shard_of parts) → ⊥) (λ made. made ≡ shard_of parts) }
+    {
+        if !parts.is_shaped() {
+            return None;
+        }
+        Some(Shard { parts })
+    }
+
+    /// All that the shard keeps, to be written down.
+    pub fn parts(&self) -> &ShardParts
+        ensures { shard_of result.now ≡ self.now }
+    {
+        &self.parts
     }
 
     /// What every shard keeps, for a caller to rest on: each box has its places, each end its counts and its box.

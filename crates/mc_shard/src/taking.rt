@@ -51,7 +51,7 @@ fn take_box(one: &mut MediaBox, slot: u8, signal: Signal, sendings: &mut Lane<(u
 
 impl ShardParts {
     /// A slot takes the next signal of its lane, with this stamp.
-    pub fn make_take(
+    pub(crate) fn make_take(
         &mut self,
         alloc: Global,
         who: u32,
@@ -155,7 +155,7 @@ impl ShardParts {
     }
 
     /// A signal that arrives, as `Shard::arrive` says.
-    pub fn arrive(&mut self, alloc: Global, at: AtEnd) -> Result<Option<Entry>, Refused>
+    pub(crate) fn arrive(&mut self, alloc: Global, at: AtEnd) -> Result<Option<Entry>, Refused>
         requires { IsShaped (shard_of self.old) }
         ensures shaped { IsShaped (shard_of self.new) }
         ensures took { IfOk result (λ made. MatchOption made
