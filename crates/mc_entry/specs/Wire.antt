@@ -13,6 +13,7 @@ use Rattle.mc_shard.specs.declared.entry.Asked.{Asked}
 use Rattle.mc_shard.specs.declared.entry.AtEnd.{AtEnd}
 use Rattle.mc_shard.specs.Digests.{medium_code}
 use Rattle.mc_entry.specs.Codes.{event_code, kind_code}
+use Rattle.mc_entry.specs.declared.codes.TheConstants.{FORM_VERSION}
 
 -- ---- numbers
 
@@ -86,13 +87,9 @@ abbrev pub asked_wire : Option Asked → List ℕ → List ℕ
 asked_wire None more = 0 ∷ more
 asked_wire (Some asked) more = 1 ∷ word4 asked.asker (word8 asked.number more)
 
--- the version of the form
-abbrev pub form_version : ℕ
-form_version = 3
-
 -- 20 bytes, 12 for a request, 54 for what was taken, and 54 for each signal that was sent
 abbrev pub entry_wire : EntryState → List ℕ → List ℕ
-entry_wire entry more = form_version ∷ word4 entry.who (word8 entry.stamp (event_wire entry.event
+entry_wire entry more = FORM_VERSION ∷ word4 entry.who (word8 entry.stamp (event_wire entry.event
     (asked_wire entry.asked (taken_wire entry.taken (word2 (length entry.sent) (all_wire entry.sent more))))))
 
 -- ---- what has a form

@@ -1,4 +1,4 @@
-// Bytes read one after another.
+//! Bytes read one after another.
 
 ghost use Rattle.std.specs.Prelude.{◌≡◌, ◌∷◌, ◌++◌, ◌<◌, ◌^◌, List, ℕ, length};
 ghost use Rattle.mc_entry.specs.Reading.{Reads, ReadsAny};

@@ -1,12 +1,12 @@
 //! The wire form of a journal's entry: bytes of fixed fields, little-endian.
 #![tactic(auto)]
 
-mod bytes;
+pub mod bytes;
 mod codes;
 pub mod laws;
-mod reading;
+pub mod reading;
 mod whole;
-mod writing;
+pub mod writing;
 
 pub use whole::{EntryFault, read_entry};
 pub use writing::write_entry;

@@ -1,4 +1,4 @@
-// The parts of an entry read from bytes. Where the bytes have another form, what is read has no meaning.
+//! The parts of an entry read from bytes. Where the bytes have another form, what is read has no meaning.
 
 ghost use Rattle.std.specs.Prelude.{◌≡◌, ◌<◌, ◌≤◌, ◌∷◌, ◌++◌, [], List, ℕ, length, false, IfOk};
 ghost use Rattle.std.specs.List.{AllByRecursion};
@@ -41,7 +41,8 @@ fn codec_list(len: u8, at: [u8; 8]) -> CodecList
     found
 }
 
-fn read_codecs(bytes: &mut Bytes<'_>) -> CodecList
+/// A list of codecs, in nine bytes.
+pub fn read_codecs(bytes: &mut Bytes<'_>) -> CodecList
     ensures { ReadsAny codecs_wire bytes.old bytes.new result }
 {
     let len = bytes.byte();
@@ -49,7 +50,8 @@ fn read_codecs(bytes: &mut Bytes<'_>) -> CodecList
     codec_list(len, at)
 }
 
-fn read_descriptor(bytes: &mut Bytes<'_>) -> Descriptor
+/// A descriptor, in 23 bytes.
+pub fn read_descriptor(bytes: &mut Bytes<'_>) -> Descriptor
     ensures fits { FitsDescriptor result }
     ensures reads { Reads FitsDescriptor descriptor_wire bytes.old bytes.new result }
 {
@@ -75,7 +77,8 @@ fn read_codec(bytes: &mut Bytes<'_>) -> Option<u8>
     if is_some == 1 { Some(codec) } else { None }
 }
 
-fn read_selector(bytes: &mut Bytes<'_>) -> Selector
+/// A selector, in as many.
+pub fn read_selector(bytes: &mut Bytes<'_>) -> Selector
     ensures fits { FitsSelector result }
     ensures reads { Reads FitsSelector selector_wire bytes.old bytes.new result }
 {

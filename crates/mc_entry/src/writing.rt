@@ -1,4 +1,4 @@
-// An entry written as bytes.
+//! An entry written as bytes.
 
 ghost use Rattle.std.specs.Prelude.{◌≡◌, ◌++◌, ◌∷◌, ◌<◌, ◌^◌, List, ℕ, [], length, OnOk};
 ghost use Rattle.mc_entry.specs.Wire.{Writes, all_wire, asked_wire, at_wire, codec_wire, codecs_wire, descriptor_wire, entry_wire, event_wire, selector_wire, signal_wire, taken_wire, word2, word4, word8, zeros};
@@ -10,29 +10,32 @@ use mc_shard::{Asked, AtEnd, Entry, medium_code};
 use mc_signal::{CodecList, Descriptor, Selector, Signal};
 use std::alloc::AllocError;
 
-// Appends bytes.
-fn put(out: &mut Vec<u8>, bytes: &[u8]) -> Result<(), AllocError>
+/// Appends bytes. It fails only for want of memory, as all that follows.
+pub fn put(out: &mut Vec<u8>, bytes: &[u8]) -> Result<(), AllocError>
     ensures { OnOk result (Writes out.old.items out.new.items (λ more. bytes.now ++ more)) }
 {
     out.extend_from_slice(bytes)
 }
 
+/// Appends a number of two bytes.
 #[tactic(auto, unfolding(crate::specs::Wire::word2))]
-fn put2(out: &mut Vec<u8>, n: u16) -> Result<(), AllocError>
+pub fn put2(out: &mut Vec<u8>, n: u16) -> Result<(), AllocError>
     ensures { OnOk result (Writes out.old.items out.new.items (word2 n)) }
 {
     put(out, &n.to_le_bytes())
 }
 
+/// Appends a number of four bytes.
 #[tactic(auto, unfolding(crate::specs::Wire::word4))]
-fn put4(out: &mut Vec<u8>, n: u32) -> Result<(), AllocError>
+pub fn put4(out: &mut Vec<u8>, n: u32) -> Result<(), AllocError>
     ensures { OnOk result (Writes out.old.items out.new.items (word4 n)) }
 {
     put(out, &n.to_le_bytes())
 }
 
+/// Appends a number of eight bytes.
 #[tactic(auto, unfolding(crate::specs::Wire::word8))]
-fn put8(out: &mut Vec<u8>, n: u64) -> Result<(), AllocError>
+pub fn put8(out: &mut Vec<u8>, n: u64) -> Result<(), AllocError>
     ensures { OnOk result (Writes out.old.items out.new.items (word8 n)) }
 {
     put(out, &n.to_le_bytes())
@@ -52,14 +55,16 @@ fn put_zeros23(out: &mut Vec<u8>) -> Result<(), AllocError>
     put(out, &[0; 23])
 }
 
-fn put_codecs(out: &mut Vec<u8>, codecs: &CodecList) -> Result<(), AllocError>
+/// Appends a list of codecs.
+pub fn put_codecs(out: &mut Vec<u8>, codecs: &CodecList) -> Result<(), AllocError>
     ensures { OnOk result (Writes out.old.items out.new.items (codecs_wire codecs.now)) }
 {
     put(out, &[codecs.len])?;
     put(out, &codecs.at)
 }
 
-fn put_descriptor(out: &mut Vec<u8>, d: &Descriptor) -> Result<(), AllocError>
+/// Appends a descriptor.
+pub fn put_descriptor(out: &mut Vec<u8>, d: &Descriptor) -> Result<(), AllocError>
     ensures { OnOk result (Writes out.old.items out.new.items (descriptor_wire d.now)) }
 {
     put4(out, d.origin)?;
@@ -78,7 +83,8 @@ fn put_codec(out: &mut Vec<u8>, codec: Option<u8>) -> Result<(), AllocError>
     }
 }
 
-fn put_selector(out: &mut Vec<u8>, s: &Selector) -> Result<(), AllocError>
+/// Appends a selector.
+pub fn put_selector(out: &mut Vec<u8>, s: &Selector) -> Result<(), AllocError>
     ensures { OnOk result (Writes out.old.items out.new.items (selector_wire s.now)) }
 {
     put4(out, s.origin)?;
