@@ -28,6 +28,13 @@ impl<'a> Bytes<'a> {
         Bytes { rest }
     }
 
+    /// How many are left.
+    pub fn left(&self) -> usize
+        ensures { result ≡ length self.now }
+    {
+        self.rest.len()
+    }
+
     /// One byte.
     pub fn byte(&mut self) -> u8
         ensures { ReadsAny (λ n more. n ∷ more) self.old self.new result }

@@ -1,0 +1,8 @@
+//! Snapshots: a shard, and so a box, written down and made again.
+#![tactic(auto)]
+
+pub mod lists;
+pub mod wire;
+
+pub use lists::{get_list, put_list};
+pub use wire::Wire;
