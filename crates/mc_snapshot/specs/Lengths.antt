@@ -1,8 +1,8 @@
 -- No form is empty.
 use Rattle.std.proofs.Common.{◌≡◌, ℕ, ◌+◌, ◌<◌, List, [], ◌∷◌, ◌++◌, length, Option, Some, None, refl, arith}
 use Rattle.std.proofs.lemmas.List.{length-append}
-use Rattle.std.specs.Int.{to_le_bytes, w32}
-use Rattle.mc_entry.specs.Wire.{word4}
+use Rattle.std.specs.Int.{to_le_bytes, w16, w32, w64}
+use Rattle.mc_entry.specs.Wire.{word2, word4, word8}
 use Rattle.mc_snapshot.specs.Forms.{option_wire, pair_wire}
 
 -- a form is longer than what comes after it
@@ -18,6 +18,20 @@ word4_long n more =
     let long : length (to_le_bytes w32 n ++ more) ≡ length (to_le_bytes w32 n) + length more = length-append (to_le_bytes w32 n) more in
     let four : length (to_le_bytes w32 n) ≡ 4 = refl in
     omega (arith, long, four)
+
+pub word2_long : IsLong word2
+unfolding word2
+word2_long n more =
+    let long : length (to_le_bytes w16 n ++ more) ≡ length (to_le_bytes w16 n) + length more = length-append (to_le_bytes w16 n) more in
+    let two : length (to_le_bytes w16 n) ≡ 2 = refl in
+    omega (arith, long, two)
+
+pub word8_long : IsLong word8
+unfolding word8
+word8_long n more =
+    let long : length (to_le_bytes w64 n ++ more) ≡ length (to_le_bytes w64 n) + length more = length-append (to_le_bytes w64 n) more in
+    let eight : length (to_le_bytes w64 n) ≡ 8 = refl in
+    omega (arith, long, eight)
 
 pub option_long : {T : Type 0} (wire : T → List ℕ → List ℕ) → IsLong wire → IsLong (option_wire wire)
 option_long {T} wire long None more = omega arith

@@ -1,8 +1,9 @@
 //! Snapshots: a shard, and so a box, written down and made again.
 #![tactic(auto)]
 
+mod kinds;
 pub mod lists;
 pub mod wire;
 
 pub use lists::{get_list, put_list};
-pub use wire::Wire;
+pub use wire::{Get, Put};

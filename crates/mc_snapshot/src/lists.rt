@@ -6,12 +6,12 @@ ghost use Rattle.mc_entry.specs.Reading.{Reads};
 ghost use Rattle.mc_entry.specs.Wire.{Writes};
 ghost use Rattle.mc_snapshot.specs.Forms.{FitsList, ReadsEach, each_wire, list_wire};
 
-use crate::wire::Wire;
+use crate::wire::{Get, Put};
 use mc_entry::bytes::Bytes;
 use mc_entry::writing::put4;
 use std::alloc::{AllocError, Global};
 
-fn put_each<T: Wire>(list: &[T], out: &mut Vec<u8>) -> Result<(), AllocError>
+fn put_each<T: Put>(list: &[T], out: &mut Vec<u8>) -> Result<(), AllocError>
     requires { FitsList T.Fits list.now }
     ensures { OnOk result (Writes out.old.items out.new.items (each_wire T.wire list.now)) }
 {
@@ -22,7 +22,7 @@ fn put_each<T: Wire>(list: &[T], out: &mut Vec<u8>) -> Result<(), AllocError>
 }
 
 /// Appends how many values there are, and each of them. It fails only for want of memory.
-pub fn put_list<T: Wire>(list: &[T], out: &mut Vec<u8>) -> Result<(), AllocError>
+pub fn put_list<T: Put>(list: &[T], out: &mut Vec<u8>) -> Result<(), AllocError>
     requires { FitsList T.Fits list.now }
     ensures { OnOk result (Writes out.old.items out.new.items (list_wire T.wire list.now)) }
 {
@@ -30,7 +30,7 @@ pub fn put_list<T: Wire>(list: &[T], out: &mut Vec<u8>) -> Result<(), AllocError
     put_each(list, out)
 }
 
-fn get_each<T: Wire + Drop>(
+fn get_each<T: Get + Drop>(
     alloc: Global,
     bytes: &mut Bytes<'_>,
     count: u32,
@@ -48,7 +48,7 @@ fn get_each<T: Wire + Drop>(
 
 /// The list with whose form the bytes begin. Where they begin with none, what is read has no meaning, and isn't longer
 /// than they are.
-pub fn get_list<T: Wire + Drop>(alloc: Global, bytes: &mut Bytes<'_>) -> Result<Vec<T>, AllocError>
+pub fn get_list<T: Get + Drop>(alloc: Global, bytes: &mut Bytes<'_>) -> Result<Vec<T>, AllocError>
     ensures fits { IfOk result (λ found. FitsList T.Fits found.items) }
     ensures reads { IfOk result (λ found.
         Reads (FitsList T.Fits) (list_wire T.wire) bytes.old bytes.new found.items) }

@@ -3,7 +3,7 @@
 ghost use Rattle.std.specs.Prelude.{◌≡◌, ◌∷◌, ◌<◌, ◌^◌, List, ℕ, length, IfOk, OnOk};
 ghost use Rattle.mc_entry.specs.Reading.{Reads};
 ghost use Rattle.mc_entry.specs.Wire.{Writes, word2, word4, word8};
-ghost use Rattle.mc_snapshot.specs.Lengths.{byte_long, option_long, pair_long, word4_long};
+ghost use Rattle.mc_snapshot.specs.Lengths.{byte_long, option_long, pair_long, word2_long, word4_long, word8_long};
 ghost use Rattle.mc_snapshot.specs.Forms.{FitsOption, FitsPair, option_wire, pair_wire};
 
 use mc_entry::bytes::Bytes;
@@ -11,7 +11,7 @@ use mc_entry::writing::{put, put2, put4, put8};
 use std::alloc::{AllocError, Global};
 
 /// A value with a form as bytes.
-pub trait Wire: Sized {
+pub trait Put {
     /// Its bytes, and then more.
     ghost wire: { Self → List ℕ → List ℕ };
 
@@ -23,16 +23,19 @@ pub trait Wire: Sized {
         requires { Fits self.now }
         ensures { OnOk result (Writes out.old.items out.new.items (wire self.now)) };
 
-    /// The value with whose form the bytes begin. Where they begin with none, what is read has no meaning.
-    fn get(alloc: Global, bytes: &mut Bytes<'_>) -> Result<Self, AllocError>
-        ensures fits { IfOk result (λ found. Fits found) }
-        ensures reads { IfOk result (λ found. Reads Fits wire bytes.old bytes.new found) };
-
     /// Its form isn't empty.
     ghost long: { (one : Self) (more : List ℕ) → length more < length (wire one more) };
 }
 
-impl Wire for u8 {
+/// A value that is read again from its form.
+pub trait Get: Put + Sized {
+    /// The value with whose form the bytes begin. Where they begin with none, what is read has no meaning.
+    fn get(alloc: Global, bytes: &mut Bytes<'_>) -> Result<Self, AllocError>
+        ensures fits { IfOk result (λ found. Self.Fits found) }
+        ensures reads { IfOk result (λ found. Reads Self.Fits Self.wire bytes.old bytes.new found) };
+}
+
+impl Put for u8 {
     ghost wire = { λ n more. n ∷ more };
 
     ghost Fits = { λ n. n < 2 ^ 8 };
@@ -42,13 +45,15 @@ impl Wire for u8 {
     fn put(&self, out: &mut Vec<u8>) -> Result<(), AllocError> {
         put(out, &[*self])
     }
+}
 
+impl Get for u8 {
     fn get(_alloc: Global, bytes: &mut Bytes<'_>) -> Result<u8, AllocError> {
         Ok(bytes.byte())
     }
 }
 
-impl Wire for u32 {
+impl Put for u32 {
     ghost wire = { word4 };
 
     ghost Fits = { λ n. n < 2 ^ 32 };
@@ -58,13 +63,15 @@ impl Wire for u32 {
     fn put(&self, out: &mut Vec<u8>) -> Result<(), AllocError> {
         put4(out, *self)
     }
+}
 
+impl Get for u32 {
     fn get(_alloc: Global, bytes: &mut Bytes<'_>) -> Result<u32, AllocError> {
         Ok(bytes.word4())
     }
 }
 
-impl<T: Wire> Wire for Option<T> {
+impl<T: Put> Put for Option<T> {
     ghost wire = { option_wire T.wire };
 
     ghost Fits = { FitsOption T.Fits };
@@ -80,7 +87,9 @@ impl<T: Wire> Wire for Option<T> {
             None => put(out, &[0]),
         }
     }
+}
 
+impl<T: Get> Get for Option<T> {
     fn get(alloc: Global, bytes: &mut Bytes<'_>) -> Result<Option<T>, AllocError> {
         if bytes.byte() == 1 {
             Ok(Some(T::get(alloc, bytes)?))
@@ -90,7 +99,7 @@ impl<T: Wire> Wire for Option<T> {
     }
 }
 
-impl<A: Wire + Drop, B: Wire> Wire for (A, B) {
+impl<A: Put, B: Put> Put for (A, B) {
     ghost wire = { pair_wire A.wire B.wire };
 
     ghost Fits = { FitsPair A.Fits B.Fits };
@@ -101,10 +110,48 @@ impl<A: Wire + Drop, B: Wire> Wire for (A, B) {
         self.0.put(out)?;
         self.1.put(out)
     }
+}
 
+impl<A: Get + Drop, B: Get> Get for (A, B) {
     fn get(alloc: Global, bytes: &mut Bytes<'_>) -> Result<(A, B), AllocError> {
         let first = A::get(alloc, bytes)?;
         let second = B::get(alloc, bytes)?;
         Ok((first, second))
+    }
+}
+
+impl Put for u16 {
+    ghost wire = { word2 };
+
+    ghost Fits = { λ n. n < 2 ^ 16 };
+
+    ghost long = { λ n more. word2_long n more };
+
+    fn put(&self, out: &mut Vec<u8>) -> Result<(), AllocError> {
+        put2(out, *self)
+    }
+}
+
+impl Get for u16 {
+    fn get(_alloc: Global, bytes: &mut Bytes<'_>) -> Result<u16, AllocError> {
+        Ok(bytes.word2())
+    }
+}
+
+impl Put for u64 {
+    ghost wire = { word8 };
+
+    ghost Fits = { λ n. n < 2 ^ 64 };
+
+    ghost long = { λ n more. word8_long n more };
+
+    fn put(&self, out: &mut Vec<u8>) -> Result<(), AllocError> {
+        put8(out, *self)
+    }
+}
+
+impl Get for u64 {
+    fn get(_alloc: Global, bytes: &mut Bytes<'_>) -> Result<u64, AllocError> {
+        Ok(bytes.word8())
     }
 }

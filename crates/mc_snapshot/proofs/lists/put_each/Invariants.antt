@@ -5,5 +5,5 @@ use Rattle.mc_snapshot.proofs.lists.put_each.Given as goal
 -- what is left to write completes the whole
 abbrev pub invariant-loop-i : goal.invariant-loop-i
 invariant-loop-i g l =
-    let wire = g.T.Wire.wire in
+    let wire = g.T.Put.wire in
     (more : List ℕ) → l.out.items ++ each_wire wire (drop l.i l.list) more ≡ l.initial.out.items ++ each_wire wire l.list more
