@@ -1,8 +1,8 @@
 -- No form is empty.
-use Rattle.std.proofs.Common.{◌≡◌, ℕ, ◌+◌, ◌<◌, List, [], ◌∷◌, ◌++◌, length, Option, Some, None, refl, arith}
+use Rattle.std.proofs.Common.{◌≡◌, ℕ, ◌+◌, ◌<◌, ◌≤◌, List, [], ◌∷◌, ◌++◌, length, replicate, Option, Some, None, refl, arith}
 use Rattle.std.proofs.lemmas.List.{length-append}
 use Rattle.std.specs.Int.{to_le_bytes, w16, w32, w64}
-use Rattle.mc_entry.specs.Wire.{word2, word4, word8}
+use Rattle.mc_entry.specs.Wire.{codec_wire, codecs_wire, descriptor_wire, selector_wire, word2, word4, word8, zeros}
 use Rattle.mc_snapshot.specs.Forms.{option_wire, pair_wire}
 
 -- a form is longer than what comes after it
@@ -43,3 +43,41 @@ pair_long {A} {B} first second long long_2 pair more =
     let inner : length more < length (second pair.1 more) = long_2 pair.1 more in
     let outer : length (second pair.1 more) < length (first pair.0 (second pair.1 more)) = long pair.0 (second pair.1 more) in
     omega (arith, inner, outer)
+
+-- what stands between is longer still
+abbrev IsNotShort : {T : Type 0} → (T → List ℕ → List ℕ) → Type 0
+IsNotShort {T} wire = (one : T) (more : List ℕ) → length more ≤ length (wire one more)
+
+zeros_not_short : IsNotShort zeros
+unfolding zeros
+zeros_not_short count more =
+    let long : length (replicate count 0 ++ more) ≡ length (replicate count 0) + length more = length-append (replicate count 0) more in
+    omega (arith, long)
+
+pub codecs_long : IsLong codecs_wire
+codecs_long list more =
+    let long : length (list.at ++ more) ≡ length list.at + length more = length-append list.at more in
+    omega (arith, long)
+
+codec_long : IsLong codec_wire
+codec_long None more = omega arith
+codec_long (Some codec) more = omega arith
+
+pub descriptor_long : IsLong descriptor_wire
+descriptor_long d more =
+    let last = codecs_long d.codecs more in
+    let port = word2_long d.port (codecs_wire d.codecs more) in
+    let addr = word4_long d.addr (word2 d.port (codecs_wire d.codecs more)) in
+    let version = word4_long d.version (word4 d.addr (word2 d.port (codecs_wire d.codecs more))) in
+    let origin = word4_long d.origin (word4 d.version (word4 d.addr (word2 d.port (codecs_wire d.codecs more)))) in
+    omega (arith, last, port, addr, version, origin)
+
+pub selector_long : IsLong selector_wire
+selector_long s more =
+    let rest = zeros_not_short 7 more in
+    let last = codec_long s.codec (zeros 7 more) in
+    let port = word2_long s.port (codec_wire s.codec (zeros 7 more)) in
+    let addr = word4_long s.addr (word2 s.port (codec_wire s.codec (zeros 7 more))) in
+    let version = word4_long s.version (word4 s.addr (word2 s.port (codec_wire s.codec (zeros 7 more)))) in
+    let origin = word4_long s.origin (word4 s.version (word4 s.addr (word2 s.port (codec_wire s.codec (zeros 7 more))))) in
+    omega (arith, rest, last, port, addr, version, origin)

@@ -3,6 +3,7 @@
 
 mod kinds;
 pub mod lists;
+mod media;
 pub mod wire;
 
 pub use lists::{get_list, put_list};
