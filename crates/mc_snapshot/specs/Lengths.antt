@@ -3,7 +3,13 @@ use Rattle.std.proofs.Common.{◌≡◌, ℕ, ◌+◌, ◌<◌, ◌≤◌, List,
 use Rattle.std.proofs.lemmas.List.{length-append}
 use Rattle.std.specs.Int.{to_le_bytes, w16, w32, w64}
 use Rattle.mc_entry.specs.Wire.{codec_wire, codecs_wire, descriptor_wire, selector_wire, word2, word4, word8, zeros}
-use Rattle.mc_snapshot.specs.Forms.{option_wire, pair_wire}
+use Rattle.mc_slot.specs.declared.SlotGoal.TheVariants.{End, Link}
+use Rattle.mc_rule.specs.declared.Guard.{Guard}
+use Rattle.mc_rule.specs.declared.Guard.TheVariants.{SlotIs, Told}
+use Rattle.mc_snapshot.specs.Forms.{each_wire, list_wire, option_wire, pair_wire}
+use Rattle.mc_snapshot.specs.Kinds.{flag_number}
+use Rattle.mc_snapshot.specs.Rules.{guard_wire, rule_wire, state_wire}
+use Rattle.mc_snapshot.specs.Slots.{address_wire, goal_wire, media_wire, slot_wire}
 
 -- a form is longer than what comes after it
 abbrev pub IsLong : {T : Type 0} → (T → List ℕ → List ℕ) → Type 0
@@ -81,3 +87,62 @@ selector_long s more =
     let version = word4_long s.version (word4 s.addr (word2 s.port (codec_wire s.codec (zeros 7 more)))) in
     let origin = word4_long s.origin (word4 s.version (word4 s.addr (word2 s.port (codec_wire s.codec (zeros 7 more))))) in
     omega (arith, rest, last, port, addr, version, origin)
+
+pub address_long : IsLong address_wire
+address_long address more =
+    let port = word2_long address.port more in
+    let addr = word4_long address.addr (word2 address.port more) in
+    omega (arith, port, addr)
+
+pub media_long : IsLong media_wire
+media_long media more =
+    let last = option_long address_wire address_long media.address more in
+    let version = word4_long media.version (flag_number media.hears ∷ flag_number media.talks ∷ option_wire address_wire media.address more) in
+    let origin = word4_long media.origin (word4 media.version (flag_number media.hears ∷ flag_number media.talks ∷ option_wire address_wire media.address more)) in
+    omega (arith, last, version, origin)
+
+pub goal_long : IsLong goal_wire
+goal_long (End goal) more = omega arith
+goal_long (Link partner) more = omega arith
+
+pub slot_long : IsLong slot_wire
+slot_long slot more =
+    let one = option_long selector_wire selector_long slot.sel_in more in
+    let two = option_long selector_wire selector_long slot.sel_out (option_wire selector_wire slot.sel_in more) in
+    let three = option_long descriptor_wire descriptor_long slot.got (option_wire selector_wire slot.sel_out (option_wire selector_wire slot.sel_in more)) in
+    let four = option_long descriptor_wire descriptor_long slot.sent (option_wire descriptor_wire slot.got (option_wire selector_wire slot.sel_out (option_wire selector_wire slot.sel_in more))) in
+    omega (arith, one, two, three, four)
+
+each_not_short : {T : Type 0} (wire : T → List ℕ → List ℕ) → IsLong wire → (list : List T) (more : List ℕ)
+    → length more ≤ length (each_wire wire list more)
+each_not_short {T} wire long [] more = omega arith
+each_not_short {T} wire long (one ∷ rest) more =
+    let inner = each_not_short wire long rest more in
+    let outer = long one (each_wire wire rest more) in
+    omega (arith, inner, outer)
+
+-- the number of a list's values alone is four bytes
+pub list_long : {T : Type 0} (wire : T → List ℕ → List ℕ) → IsLong wire → IsLong (list_wire wire)
+list_long {T} wire long list more =
+    let each = each_not_short wire long list more in
+    let count = word4_long (length list) (each_wire wire list more) in
+    omega (arith, each, count)
+
+guard_long_by : (guard : Guard) (more : List ℕ) → length more < length (guard_wire guard more)
+guard_long_by (SlotIs local state) more = omega arith
+guard_long_by (Told word) more = omega arith
+
+pub guard_long : IsLong guard_wire
+guard_long guard more = guard_long_by guard more
+
+pub rule_long : IsLong rule_wire
+rule_long rule more =
+    let target = word4_long rule.target more in
+    let guard = guard_long rule.guard (word4 rule.target more) in
+    omega (arith, target, guard)
+
+pub state_long : IsLong state_wire
+state_long state more =
+    let rules = list_long rule_wire rule_long state.rules more in
+    let goals = list_long goal_wire goal_long state.goals (list_wire rule_wire state.rules more) in
+    omega (arith, rules, goals)

@@ -1,3 +1,5 @@
 pub mod Forms
 pub mod Kinds
 pub mod Lengths
+pub mod Rules
+pub mod Slots

@@ -4,6 +4,8 @@
 mod kinds;
 pub mod lists;
 mod media;
+mod rules;
+mod slots;
 pub mod wire;
 
 pub use lists::{get_list, put_list};

@@ -1,8 +1,8 @@
 // What a slot keeps of its far end, as bytes.
 
 ghost use Rattle.mc_entry.specs.Wire.{FitsDescriptor, FitsSelector, codecs_wire, descriptor_wire, selector_wire};
-ghost use Rattle.mc_snapshot.specs.Forms.{FitsPair, pair_wire};
-ghost use Rattle.mc_snapshot.specs.Lengths.{codecs_long, descriptor_long, selector_long};
+ghost use Rattle.mc_snapshot.specs.Lengths.{address_long, codecs_long, descriptor_long, media_long, selector_long};
+ghost use Rattle.mc_snapshot.specs.Slots.{FitsAddress, FitsMedia, address_wire, media_wire};
 
 use crate::wire::{Get, Put};
 use mc_box::{MediaAddress, SlotMedia};
@@ -63,5 +63,58 @@ impl Put for Selector {
 impl Get for Selector {
     fn get(_alloc: Global, bytes: &mut Bytes<'_>) -> Result<Selector, AllocError> {
         Ok(read_selector(bytes))
+    }
+}
+
+impl Put for MediaAddress {
+    ghost wire = { address_wire };
+
+    ghost Fits = { FitsAddress };
+
+    ghost long = { λ address more. address_long address more };
+
+    fn put(&self, out: &mut Vec<u8>) -> Result<(), AllocError> {
+        self.addr.put(out)?;
+        self.port.put(out)
+    }
+}
+
+impl Get for MediaAddress {
+    fn get(alloc: Global, bytes: &mut Bytes<'_>) -> Result<MediaAddress, AllocError> {
+        let addr = u32::get(alloc, bytes)?;
+        let port = u16::get(alloc, bytes)?;
+        Ok(MediaAddress { addr, port })
+    }
+}
+
+impl Put for SlotMedia {
+    ghost wire = { media_wire };
+
+    ghost Fits = { FitsMedia };
+
+    ghost long = { λ media more. media_long media more };
+
+    fn put(&self, out: &mut Vec<u8>) -> Result<(), AllocError> {
+        self.origin.put(out)?;
+        self.version.put(out)?;
+        self.hears.put(out)?;
+        self.talks.put(out)?;
+        self.address.put(out)
+    }
+}
+
+// Its fields, in their order.
+type MediaFields = (u32, (u32, (bool, (bool, Option<MediaAddress>))));
+
+impl Get for SlotMedia {
+    fn get(alloc: Global, bytes: &mut Bytes<'_>) -> Result<SlotMedia, AllocError> {
+        let (origin, (version, (hears, (talks, address)))) = MediaFields::get(alloc, bytes)?;
+        Ok(SlotMedia {
+            origin,
+            version,
+            hears,
+            talks,
+            address,
+        })
     }
 }
