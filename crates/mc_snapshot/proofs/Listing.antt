@@ -3,7 +3,7 @@ use Rattle.std.proofs.Common.{◌≡◌, ℕ, zero, suc, ◌+◌, ◌<◌, ◌�
 use Rattle.std.proofs.lemmas.List.{length-append}
 use Rattle.std.specs.List.{AllByRecursion}
 use Rattle.mc_entry.specs.Reading.{Reads}
-use Rattle.mc_entry.specs.Wire.{word4}
+use Rattle.mc_entry.specs.Wire.{word8}
 use Rattle.mc_snapshot.specs.Forms.{FitsList, each_wire, list_wire}
 use Rattle.mc_snapshot.specs.Lengths.{IsLong}
 
@@ -58,7 +58,7 @@ each_long {T} wire long (one ∷ rest) more =
 
 -- so a number of values above that of bytes begins no form
 pub too_long : {T : Type 0} (Fits : T → Type 0) (wire : T → List ℕ → List ℕ) (list : List T) (more old new : List ℕ) (count : ℕ)
-    → IsLong wire → Reads (λ n. n < 2 ^ 32) word4 old new count → length new < count → FitsList Fits list
+    → IsLong wire → Reads (λ n. n < 2 ^ 64) word8 old new count → length new < count → FitsList Fits list
     → old ≡ list_wire wire list more → ⊥
 too_long {T} Fits wire list more old new count long reads short fits form =
     let both = reads (length list) (each_wire wire list more) fits.0 form in

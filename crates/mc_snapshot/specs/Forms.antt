@@ -1,7 +1,10 @@
 -- Forms of values that are made of others: each definition gives the bytes of a value, and then more.
 use Rattle.std.specs.Prelude.{◌≡◌, ℕ, ◌<◌, ◌^◌, List, [], ◌∷◌, length, Option, Some, None}
 use Rattle.std.specs.List.{AllByRecursion}
-use Rattle.mc_entry.specs.Wire.{word4}
+use Rattle.std.specs.Option.{option_map}
+use Rattle.std.specs.declared.alloc.Global.{Global}
+use Rattle.std.specs.declared.vec.Vec.{Vec}
+use Rattle.mc_entry.specs.Wire.{word8}
 
 -- 1 and the value, or 0
 abbrev pub option_wire : {T : Type 0} → (T → List ℕ → List ℕ) → Option T → List ℕ → List ℕ
@@ -26,12 +29,16 @@ each_wire {T} wire (one ∷ rest) more = wire one (each_wire wire rest more)
 
 -- how many there are, and each
 abbrev pub list_wire : {T : Type 0} → (T → List ℕ → List ℕ) → List T → List ℕ → List ℕ
-list_wire {T} wire list more = word4 (length list) (each_wire wire list more)
+list_wire {T} wire list more = word8 (length list) (each_wire wire list more)
 
 abbrev pub FitsList : {T : Type 0} → (T → Type 0) → List T → Type 0
-FitsList {T} Fits list = (length list < 2 ^ 32) × AllByRecursion Fits list
+FitsList {T} Fits list = (length list < 2 ^ 64) × AllByRecursion Fits list
 
 -- if the bytes begin with the forms of so many values, it's these, and what comes after them is left
 abbrev pub ReadsEach : {T : Type 0} → (T → Type 0) → (T → List ℕ → List ℕ) → ℕ → List ℕ → List ℕ → List T → Type 0
 ReadsEach {T} Fits wire count old new found = (list : List T) (more : List ℕ) → length list ≡ count
     → AllByRecursion Fits list → old ≡ each_wire wire list more → (found ≡ list) × (new ≡ more)
+
+-- the values of lists that are kept as vectors
+abbrev pub states_in : {T : Type 0} → Option (Vec T Global) → Option (List T)
+states_in {T} found = option_map (λ (list : Vec T Global). list.items) found

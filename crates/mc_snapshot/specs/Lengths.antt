@@ -6,6 +6,7 @@ use Rattle.mc_entry.specs.Wire.{codec_wire, codecs_wire, descriptor_wire, select
 use Rattle.mc_slot.specs.declared.SlotGoal.TheVariants.{End, Link}
 use Rattle.mc_rule.specs.declared.Guard.{Guard}
 use Rattle.mc_rule.specs.declared.Guard.TheVariants.{SlotIs, Told}
+use Rattle.mc_snapshot.specs.Boxes.{box_wire, byte_wire, progress_wire, slots_wire}
 use Rattle.mc_snapshot.specs.Forms.{each_wire, list_wire, option_wire, pair_wire}
 use Rattle.mc_snapshot.specs.Kinds.{flag_number}
 use Rattle.mc_snapshot.specs.Rules.{guard_wire, rule_wire, state_wire}
@@ -121,11 +122,11 @@ each_not_short {T} wire long (one ∷ rest) more =
     let outer = long one (each_wire wire rest more) in
     omega (arith, inner, outer)
 
--- the number of a list's values alone is four bytes
+-- the number of a list's values alone is eight bytes
 pub list_long : {T : Type 0} (wire : T → List ℕ → List ℕ) → IsLong wire → IsLong (list_wire wire)
 list_long {T} wire long list more =
     let each = each_not_short wire long list more in
-    let count = word4_long (length list) (each_wire wire list more) in
+    let count = word8_long (length list) (each_wire wire list more) in
     omega (arith, each, count)
 
 guard_long_by : (guard : Guard) (more : List ℕ) → length more < length (guard_wire guard more)
@@ -146,3 +147,18 @@ state_long state more =
     let rules = list_long rule_wire rule_long state.rules more in
     let goals = list_long goal_wire goal_long state.goals (list_wire rule_wire state.rules more) in
     omega (arith, rules, goals)
+
+pub box_long : IsLong box_wire
+box_long box more =
+    let told = option_long byte_wire byte_long box.told more in
+    let at = option_long word4 word4_long box.at (option_wire byte_wire box.told more) in
+    let program = option_long (list_wire state_wire) (list_long state_wire state_long) box.program (progress_wire box more) in
+    let rest = option_wire (list_wire state_wire) box.program (progress_wire box more) in
+    let media = list_long media_wire media_long box.media rest in
+    let goals = list_long goal_wire goal_long box.goals (list_wire media_wire box.media rest) in
+    let slots = list_long slot_wire slot_long box.slots (list_wire goal_wire box.goals (list_wire media_wire box.media rest)) in
+    let version = word4_long box.first_version (slots_wire box rest) in
+    let sends = codecs_long box.sends (word4 box.first_version (slots_wire box rest)) in
+    let receives = codecs_long box.receives (codecs_wire box.sends (word4 box.first_version (slots_wire box rest))) in
+    let number = word4_long box.number (codecs_wire box.receives (codecs_wire box.sends (word4 box.first_version (slots_wire box rest)))) in
+    omega (arith, told, at, program, media, goals, slots, version, sends, receives, number)

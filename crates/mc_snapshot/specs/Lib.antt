@@ -1,3 +1,4 @@
+pub mod Boxes
 pub mod Forms
 pub mod Kinds
 pub mod Lengths

@@ -26,14 +26,18 @@ impl Put for bool {
 
     ghost Fits = { λ one. Unit {0} };
 
-    ghost long = { λ one more. byte_long (flag_number one) more };
-
     fn put(&self, out: &mut Vec<u8>) -> Result<(), AllocError> {
         put(out, &[flag_number(*self)])
     }
 }
 
 impl Get for bool {
+    ghost wire = { λ one more. flag_number one ∷ more };
+
+    ghost Fits = { λ one. Unit {0} };
+
+    ghost long = { λ one more. byte_long (flag_number one) more };
+
     fn get(_alloc: Global, bytes: &mut Bytes<'_>) -> Result<bool, AllocError> {
         Ok(match bytes.byte() {
             1 => true,
@@ -56,14 +60,18 @@ impl Put for Medium {
 
     ghost Fits = { λ one. Unit {0} };
 
-    ghost long = { λ one more. byte_long (medium_number one) more };
-
     fn put(&self, out: &mut Vec<u8>) -> Result<(), AllocError> {
         put(out, &[medium_number(*self)])
     }
 }
 
 impl Get for Medium {
+    ghost wire = { λ one more. medium_number one ∷ more };
+
+    ghost Fits = { λ one. Unit {0} };
+
+    ghost long = { λ one more. byte_long (medium_number one) more };
+
     fn get(_alloc: Global, bytes: &mut Bytes<'_>) -> Result<Medium, AllocError> {
         Ok(match bytes.byte() {
             0 => Medium::Audio,
@@ -86,14 +94,18 @@ impl Put for Kind {
 
     ghost Fits = { λ one. Unit {0} };
 
-    ghost long = { λ one more. byte_long (kind_number one) more };
-
     fn put(&self, out: &mut Vec<u8>) -> Result<(), AllocError> {
         put(out, &[kind_number(*self)])
     }
 }
 
 impl Get for Kind {
+    ghost wire = { λ one more. kind_number one ∷ more };
+
+    ghost Fits = { λ one. Unit {0} };
+
+    ghost long = { λ one more. byte_long (kind_number one) more };
+
     fn get(_alloc: Global, bytes: &mut Bytes<'_>) -> Result<Kind, AllocError> {
         Ok(match bytes.byte() {
             0 => Kind::Device,
@@ -117,14 +129,18 @@ impl Put for Goal {
 
     ghost Fits = { λ one. Unit {0} };
 
-    ghost long = { λ one more. byte_long (goal_number one) more };
-
     fn put(&self, out: &mut Vec<u8>) -> Result<(), AllocError> {
         put(out, &[goal_number(*self)])
     }
 }
 
 impl Get for Goal {
+    ghost wire = { λ one more. goal_number one ∷ more };
+
+    ghost Fits = { λ one. Unit {0} };
+
+    ghost long = { λ one more. byte_long (goal_number one) more };
+
     fn get(_alloc: Global, bytes: &mut Bytes<'_>) -> Result<Goal, AllocError> {
         Ok(match bytes.byte() {
             0 => Goal::Open,
@@ -151,14 +167,18 @@ impl Put for State {
 
     ghost Fits = { λ one. Unit {0} };
 
-    ghost long = { λ one more. byte_long (state_number one) more };
-
     fn put(&self, out: &mut Vec<u8>) -> Result<(), AllocError> {
         put(out, &[state_number(*self)])
     }
 }
 
 impl Get for State {
+    ghost wire = { λ one more. state_number one ∷ more };
+
+    ghost Fits = { λ one. Unit {0} };
+
+    ghost long = { λ one more. byte_long (state_number one) more };
+
     fn get(_alloc: Global, bytes: &mut Bytes<'_>) -> Result<State, AllocError> {
         Ok(match bytes.byte() {
             0 => State::Closed,

@@ -1,6 +1,7 @@
 //! Snapshots: a shard, and so a box, written down and made again.
 #![tactic(auto)]
 
+pub mod boxes;
 mod kinds;
 pub mod lists;
 mod media;

@@ -8,12 +8,12 @@ ghost use Rattle.mc_snapshot.specs.Forms.{FitsList, ReadsEach, each_wire, list_w
 
 use crate::wire::{Get, Put};
 use mc_entry::bytes::Bytes;
-use mc_entry::writing::put4;
+use mc_entry::writing::put8;
 use std::alloc::{AllocError, Global};
 
 fn put_each<T: Put>(list: &[T], out: &mut Vec<u8>) -> Result<(), AllocError>
-    requires { FitsList T.Fits list.now }
-    ensures { OnOk result (Writes out.old.items out.new.items (each_wire T.wire list.now)) }
+    ensures fits { OnOk result (AllByRecursion T.Fits list.now) }
+    ensures writes { OnOk result (Writes out.old.items out.new.items (each_wire T.wire list.now)) }
 {
     for i in 0..list.len() {
         list[i].put(out)?;
@@ -23,17 +23,17 @@ fn put_each<T: Put>(list: &[T], out: &mut Vec<u8>) -> Result<(), AllocError>
 
 /// Appends how many values there are, and each of them. It fails only for want of memory.
 pub fn put_list<T: Put>(list: &[T], out: &mut Vec<u8>) -> Result<(), AllocError>
-    requires { FitsList T.Fits list.now }
-    ensures { OnOk result (Writes out.old.items out.new.items (list_wire T.wire list.now)) }
+    ensures fits { OnOk result (FitsList T.Fits list.now) }
+    ensures writes { OnOk result (Writes out.old.items out.new.items (list_wire T.wire list.now)) }
 {
-    put4(out, list.len() as u32)?;
+    put8(out, list.len() as u64)?;
     put_each(list, out)
 }
 
 fn get_each<T: Get + Drop>(
     alloc: Global,
     bytes: &mut Bytes<'_>,
-    count: u32,
+    count: u64,
 ) -> Result<Vec<T>, AllocError>
     ensures few { IfOk result (λ found. length found.items ≡ count) }
     ensures fits { IfOk result (λ found. AllByRecursion T.Fits found.items) }
@@ -53,8 +53,8 @@ pub fn get_list<T: Get + Drop>(alloc: Global, bytes: &mut Bytes<'_>) -> Result<V
     ensures reads { IfOk result (λ found.
         Reads (FitsList T.Fits) (list_wire T.wire) bytes.old bytes.new found.items) }
 {
-    let count = bytes.word4();
-    if count as usize > bytes.left() {
+    let count = bytes.word8();
+    if count > bytes.left() as u64 {
         return Ok(Vec::new(alloc));
     }
     get_each(alloc, bytes, count)

@@ -1,5 +1,6 @@
 // What a slot keeps of its far end, as bytes.
 
+ghost use Rattle.std.specs.Prelude.{◌<◌, ◌^◌};
 ghost use Rattle.mc_entry.specs.Wire.{FitsDescriptor, FitsSelector, codecs_wire, descriptor_wire, selector_wire};
 ghost use Rattle.mc_snapshot.specs.Lengths.{address_long, codecs_long, descriptor_long, media_long, selector_long};
 ghost use Rattle.mc_snapshot.specs.Slots.{FitsAddress, FitsMedia, address_wire, media_wire};
@@ -17,17 +18,43 @@ impl Put for CodecList {
 
     ghost Fits = { λ list. Unit {0} };
 
-    ghost long = { λ list more. codecs_long list more };
-
     fn put(&self, out: &mut Vec<u8>) -> Result<(), AllocError> {
         put_codecs(out, self)
     }
 }
 
 impl Get for CodecList {
+    ghost wire = { codecs_wire };
+
+    ghost Fits = { λ list. Unit {0} };
+
+    ghost long = { λ list more. codecs_long list more };
+
     fn get(_alloc: Global, bytes: &mut Bytes<'_>) -> Result<CodecList, AllocError> {
         Ok(read_codecs(bytes))
     }
+}
+
+fn fits2(n: u16)
+    ensures { n < 2 ^ 16 }
+{
+    let _ = n;
+}
+
+fn fits4(n: u32)
+    ensures { n < 2 ^ 32 }
+{
+    let _ = n;
+}
+
+// Each of its numbers fits its field, as its types say.
+fn descriptor_fits(d: &Descriptor)
+    ensures { FitsDescriptor d.now }
+{
+    fits4(d.origin);
+    fits4(d.version);
+    fits4(d.addr);
+    fits2(d.port);
 }
 
 impl Put for Descriptor {
@@ -35,17 +62,32 @@ impl Put for Descriptor {
 
     ghost Fits = { FitsDescriptor };
 
-    ghost long = { λ d more. descriptor_long d more };
-
     fn put(&self, out: &mut Vec<u8>) -> Result<(), AllocError> {
+        descriptor_fits(self);
         put_descriptor(out, self)
     }
 }
 
 impl Get for Descriptor {
+    ghost wire = { descriptor_wire };
+
+    ghost Fits = { FitsDescriptor };
+
+    ghost long = { λ d more. descriptor_long d more };
+
     fn get(_alloc: Global, bytes: &mut Bytes<'_>) -> Result<Descriptor, AllocError> {
         Ok(read_descriptor(bytes))
     }
+}
+
+// The same of a selector.
+fn selector_fits(s: &Selector)
+    ensures { FitsSelector s.now }
+{
+    fits4(s.origin);
+    fits4(s.version);
+    fits4(s.addr);
+    fits2(s.port);
 }
 
 impl Put for Selector {
@@ -53,14 +95,19 @@ impl Put for Selector {
 
     ghost Fits = { FitsSelector };
 
-    ghost long = { λ s more. selector_long s more };
-
     fn put(&self, out: &mut Vec<u8>) -> Result<(), AllocError> {
+        selector_fits(self);
         put_selector(out, self)
     }
 }
 
 impl Get for Selector {
+    ghost wire = { selector_wire };
+
+    ghost Fits = { FitsSelector };
+
+    ghost long = { λ s more. selector_long s more };
+
     fn get(_alloc: Global, bytes: &mut Bytes<'_>) -> Result<Selector, AllocError> {
         Ok(read_selector(bytes))
     }
@@ -71,8 +118,6 @@ impl Put for MediaAddress {
 
     ghost Fits = { FitsAddress };
 
-    ghost long = { λ address more. address_long address more };
-
     fn put(&self, out: &mut Vec<u8>) -> Result<(), AllocError> {
         self.addr.put(out)?;
         self.port.put(out)
@@ -80,6 +125,12 @@ impl Put for MediaAddress {
 }
 
 impl Get for MediaAddress {
+    ghost wire = { address_wire };
+
+    ghost Fits = { FitsAddress };
+
+    ghost long = { λ address more. address_long address more };
+
     fn get(alloc: Global, bytes: &mut Bytes<'_>) -> Result<MediaAddress, AllocError> {
         let addr = u32::get(alloc, bytes)?;
         let port = u16::get(alloc, bytes)?;
@@ -91,8 +142,6 @@ impl Put for SlotMedia {
     ghost wire = { media_wire };
 
     ghost Fits = { FitsMedia };
-
-    ghost long = { λ media more. media_long media more };
 
     fn put(&self, out: &mut Vec<u8>) -> Result<(), AllocError> {
         self.origin.put(out)?;
@@ -107,6 +156,12 @@ impl Put for SlotMedia {
 type MediaFields = (u32, (u32, (bool, (bool, Option<MediaAddress>))));
 
 impl Get for SlotMedia {
+    ghost wire = { media_wire };
+
+    ghost Fits = { FitsMedia };
+
+    ghost long = { λ media more. media_long media more };
+
     fn get(alloc: Global, bytes: &mut Bytes<'_>) -> Result<SlotMedia, AllocError> {
         let (origin, (version, (hears, (talks, address)))) = MediaFields::get(alloc, bytes)?;
         Ok(SlotMedia {

@@ -15,8 +15,6 @@ impl Put for Guard {
 
     ghost Fits = { FitsGuard };
 
-    ghost long = { λ guard more. guard_long guard more };
-
     fn put(&self, out: &mut Vec<u8>) -> Result<(), AllocError> {
         match self {
             Guard::SlotIs(local, state) => (0u8, (*local, *state)).put(out),
@@ -26,6 +24,12 @@ impl Put for Guard {
 }
 
 impl Get for Guard {
+    ghost wire = { guard_wire };
+
+    ghost Fits = { FitsGuard };
+
+    ghost long = { λ guard more. guard_long guard more };
+
     fn get(alloc: Global, bytes: &mut Bytes<'_>) -> Result<Guard, AllocError> {
         let kind = u8::get(alloc, bytes)?;
         let first = u8::get(alloc, bytes)?;
@@ -43,8 +47,6 @@ impl Put for Rule {
 
     ghost Fits = { FitsRule };
 
-    ghost long = { λ rule more. rule_long rule more };
-
     fn put(&self, out: &mut Vec<u8>) -> Result<(), AllocError> {
         self.guard.put(out)?;
         self.target.put(out)
@@ -52,6 +54,12 @@ impl Put for Rule {
 }
 
 impl Get for Rule {
+    ghost wire = { rule_wire };
+
+    ghost Fits = { FitsRule };
+
+    ghost long = { λ rule more. rule_long rule more };
+
     fn get(alloc: Global, bytes: &mut Bytes<'_>) -> Result<Rule, AllocError> {
         let guard = Guard::get(alloc, bytes)?;
         let target = u32::get(alloc, bytes)?;
@@ -64,8 +72,6 @@ impl Put for ProgState {
 
     ghost Fits = { FitsState };
 
-    ghost long = { λ state more. state_long state more };
-
     fn put(&self, out: &mut Vec<u8>) -> Result<(), AllocError> {
         put_list(&self.goals, out)?;
         put_list(&self.rules, out)
@@ -73,6 +79,12 @@ impl Put for ProgState {
 }
 
 impl Get for ProgState {
+    ghost wire = { state_wire };
+
+    ghost Fits = { FitsState };
+
+    ghost long = { λ state more. state_long state more };
+
     fn get(alloc: Global, bytes: &mut Bytes<'_>) -> Result<ProgState, AllocError> {
         let goals = get_list(alloc, bytes)?;
         let rules = get_list(alloc, bytes)?;

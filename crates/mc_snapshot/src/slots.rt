@@ -14,8 +14,6 @@ impl Put for SlotGoal {
 
     ghost Fits = { FitsGoal };
 
-    ghost long = { λ goal more. goal_long goal more };
-
     fn put(&self, out: &mut Vec<u8>) -> Result<(), AllocError> {
         match self {
             SlotGoal::End(goal) => {
@@ -31,6 +29,12 @@ impl Put for SlotGoal {
 }
 
 impl Get for SlotGoal {
+    ghost wire = { goal_wire };
+
+    ghost Fits = { FitsGoal };
+
+    ghost long = { λ goal more. goal_long goal more };
+
     fn get(alloc: Global, bytes: &mut Bytes<'_>) -> Result<SlotGoal, AllocError> {
         Ok(match u8::get(alloc, bytes)? {
             0 => SlotGoal::End(Goal::get(alloc, bytes)?),
@@ -43,8 +47,6 @@ impl Put for Slot {
     ghost wire = { slot_wire };
 
     ghost Fits = { FitsSlot };
-
-    ghost long = { λ slot more. slot_long slot more };
 
     fn put(&self, out: &mut Vec<u8>) -> Result<(), AllocError> {
         self.state.put(out)?;
@@ -67,6 +69,12 @@ type SlotFields = (
 );
 
 impl Get for Slot {
+    ghost wire = { slot_wire };
+
+    ghost Fits = { FitsSlot };
+
+    ghost long = { λ slot more. slot_long slot more };
+
     fn get(alloc: Global, bytes: &mut Bytes<'_>) -> Result<Slot, AllocError> {
         let (state, (medium, fields)) = <(State, (Medium, SlotFields))>::get(alloc, bytes)?;
         let (initiator, (sent, (got, (sel_out, sel_in)))) = fields;

@@ -10,29 +10,35 @@ use mc_entry::bytes::Bytes;
 use mc_entry::writing::{put, put2, put4, put8};
 use std::alloc::{AllocError, Global};
 
-/// A value with a form as bytes.
+/// A value that is written as bytes.
 pub trait Put {
-    /// Its bytes, and then more.
+    /// Its form: its bytes, and then more.
     ghost wire: { Self → List ℕ → List ℕ };
 
     /// It has a form: each number fits its field.
     ghost Fits: { Self → Type 0 };
 
-    /// Appends its bytes. It fails only for want of memory.
+    /// Appends its form. It fails only for want of memory.
     fn put(&self, out: &mut Vec<u8>) -> Result<(), AllocError>
-        requires { Fits self.now }
-        ensures { OnOk result (Writes out.old.items out.new.items (wire self.now)) };
-
-    /// Its form isn't empty.
-    ghost long: { (one : Self) (more : List ℕ) → length more < length (wire one more) };
+        ensures fits { OnOk result (Fits self.now) }
+        ensures writes { OnOk result (Writes out.old.items out.new.items (wire self.now)) };
 }
 
 /// A value that is read again from its form.
-pub trait Get: Put + Sized {
+pub trait Get: Sized {
+    /// Its form: its bytes, and then more.
+    ghost wire: { Self → List ℕ → List ℕ };
+
+    /// It has a form: each number fits its field.
+    ghost Fits: { Self → Type 0 };
+
     /// The value with whose form the bytes begin. Where they begin with none, what is read has no meaning.
     fn get(alloc: Global, bytes: &mut Bytes<'_>) -> Result<Self, AllocError>
-        ensures fits { IfOk result (λ found. Self.Fits found) }
-        ensures reads { IfOk result (λ found. Reads Self.Fits Self.wire bytes.old bytes.new found) };
+        ensures fits { IfOk result (λ found. Fits found) }
+        ensures reads { IfOk result (λ found. Reads Fits wire bytes.old bytes.new found) };
+
+    /// Its form isn't empty.
+    ghost long: { (one : Self) (more : List ℕ) → length more < length (wire one more) };
 }
 
 impl Put for u8 {
@@ -40,14 +46,18 @@ impl Put for u8 {
 
     ghost Fits = { λ n. n < 2 ^ 8 };
 
-    ghost long = { λ n more. byte_long n more };
-
     fn put(&self, out: &mut Vec<u8>) -> Result<(), AllocError> {
         put(out, &[*self])
     }
 }
 
 impl Get for u8 {
+    ghost wire = { λ n more. n ∷ more };
+
+    ghost Fits = { λ n. n < 2 ^ 8 };
+
+    ghost long = { λ n more. byte_long n more };
+
     fn get(_alloc: Global, bytes: &mut Bytes<'_>) -> Result<u8, AllocError> {
         Ok(bytes.byte())
     }
@@ -58,14 +68,18 @@ impl Put for u32 {
 
     ghost Fits = { λ n. n < 2 ^ 32 };
 
-    ghost long = { λ n more. word4_long n more };
-
     fn put(&self, out: &mut Vec<u8>) -> Result<(), AllocError> {
         put4(out, *self)
     }
 }
 
 impl Get for u32 {
+    ghost wire = { word4 };
+
+    ghost Fits = { λ n. n < 2 ^ 32 };
+
+    ghost long = { λ n more. word4_long n more };
+
     fn get(_alloc: Global, bytes: &mut Bytes<'_>) -> Result<u32, AllocError> {
         Ok(bytes.word4())
     }
@@ -75,8 +89,6 @@ impl<T: Put> Put for Option<T> {
     ghost wire = { option_wire T.wire };
 
     ghost Fits = { FitsOption T.Fits };
-
-    ghost long = { λ one more. option_long T.wire T.long one more };
 
     fn put(&self, out: &mut Vec<u8>) -> Result<(), AllocError> {
         match self {
@@ -90,6 +102,12 @@ impl<T: Put> Put for Option<T> {
 }
 
 impl<T: Get> Get for Option<T> {
+    ghost wire = { option_wire T.wire };
+
+    ghost Fits = { FitsOption T.Fits };
+
+    ghost long = { λ one more. option_long T.wire T.long one more };
+
     fn get(alloc: Global, bytes: &mut Bytes<'_>) -> Result<Option<T>, AllocError> {
         if bytes.byte() == 1 {
             Ok(Some(T::get(alloc, bytes)?))
@@ -104,8 +122,6 @@ impl<A: Put, B: Put> Put for (A, B) {
 
     ghost Fits = { FitsPair A.Fits B.Fits };
 
-    ghost long = { λ pair more. pair_long A.wire B.wire A.long B.long pair more };
-
     fn put(&self, out: &mut Vec<u8>) -> Result<(), AllocError> {
         self.0.put(out)?;
         self.1.put(out)
@@ -113,6 +129,12 @@ impl<A: Put, B: Put> Put for (A, B) {
 }
 
 impl<A: Get + Drop, B: Get> Get for (A, B) {
+    ghost wire = { pair_wire A.wire B.wire };
+
+    ghost Fits = { FitsPair A.Fits B.Fits };
+
+    ghost long = { λ pair more. pair_long A.wire B.wire A.long B.long pair more };
+
     fn get(alloc: Global, bytes: &mut Bytes<'_>) -> Result<(A, B), AllocError> {
         let first = A::get(alloc, bytes)?;
         let second = B::get(alloc, bytes)?;
@@ -125,14 +147,18 @@ impl Put for u16 {
 
     ghost Fits = { λ n. n < 2 ^ 16 };
 
-    ghost long = { λ n more. word2_long n more };
-
     fn put(&self, out: &mut Vec<u8>) -> Result<(), AllocError> {
         put2(out, *self)
     }
 }
 
 impl Get for u16 {
+    ghost wire = { word2 };
+
+    ghost Fits = { λ n. n < 2 ^ 16 };
+
+    ghost long = { λ n more. word2_long n more };
+
     fn get(_alloc: Global, bytes: &mut Bytes<'_>) -> Result<u16, AllocError> {
         Ok(bytes.word2())
     }
@@ -143,14 +169,18 @@ impl Put for u64 {
 
     ghost Fits = { λ n. n < 2 ^ 64 };
 
-    ghost long = { λ n more. word8_long n more };
-
     fn put(&self, out: &mut Vec<u8>) -> Result<(), AllocError> {
         put8(out, *self)
     }
 }
 
 impl Get for u64 {
+    ghost wire = { word8 };
+
+    ghost Fits = { λ n. n < 2 ^ 64 };
+
+    ghost long = { λ n more. word8_long n more };
+
     fn get(_alloc: Global, bytes: &mut Bytes<'_>) -> Result<u64, AllocError> {
         Ok(bytes.word8())
     }

@@ -6,8 +6,8 @@ use Rattle.mc_snapshot.proofs.lists.get_each.Given as goal
 -- the values before were read
 abbrev pub invariant-loop : goal.invariant-loop
 invariant-loop g l =
-    let wire = g.T.Put.wire in
-    let Fits = g.T.Put.Fits in
+    let wire = g.T.Get.wire in
+    let Fits = g.T.Get.Fits in
     record {
       few : length l.found.items ≡ l.counter;
       fits : AllByRecursion Fits l.found.items;

@@ -1,4 +1,5 @@
-use Rattle.std.proofs.Common.{◌≡◌, ◌++◌, ℕ, List, drop}
+use Rattle.std.proofs.Common.{◌≡◌, ◌++◌, ℕ, List, drop, take}
+use Rattle.std.specs.List.{AllByRecursion}
 use Rattle.mc_snapshot.specs.Forms.{each_wire}
 use Rattle.mc_snapshot.proofs.lists.put_each.Given as goal
 
@@ -6,4 +7,7 @@ use Rattle.mc_snapshot.proofs.lists.put_each.Given as goal
 abbrev pub invariant-loop-i : goal.invariant-loop-i
 invariant-loop-i g l =
     let wire = g.T.Put.wire in
-    (more : List ℕ) → l.out.items ++ each_wire wire (drop l.i l.list) more ≡ l.initial.out.items ++ each_wire wire l.list more
+    record {
+      fits : AllByRecursion g.T.Put.Fits (take l.i l.list);
+      writes : (more : List ℕ) → l.out.items ++ each_wire wire (drop l.i l.list) more ≡ l.initial.out.items ++ each_wire wire l.list more;
+    }
