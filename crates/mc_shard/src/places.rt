@@ -30,6 +30,14 @@ impl SlotPlaces {
         SlotPlaces { list }
     }
 
+    /// All places, by the slots' numbers.
+    pub fn list(&self) -> &[(u32, u8)]
+        ensures list { result.now ≡ self.now }
+        ensures few { length result.now ≤ 256 }
+    {
+        &self.list
+    }
+
     /// The place of a slot.
     pub fn get(&self, slot: u8) -> Option<(u32, u8)>
         ensures { result ≡ slice_get self.now slot }

@@ -1,5 +1,6 @@
 -- The form of a box.
-use Rattle.std.specs.Prelude.{ℕ, ◌<◌, ◌^◌, List, ◌∷◌}
+use Rattle.std.specs.Prelude.{ℕ, ◌<◌, ◌^◌, List, ◌∷◌, Option, Some, None}
+use Rattle.mc_rule.specs.Programs.{IsProgram, ProgStateState}
 use Rattle.mc_entry.specs.Wire.{codecs_wire, word4}
 use Rattle.mc_box.specs.Boxes.{BoxState}
 use Rattle.mc_snapshot.specs.Forms.{FitsList, FitsOption, list_wire, option_wire}
@@ -38,3 +39,8 @@ pub record FitsBox (box : BoxState) : Type 0 where
   pub program : FitsOption (FitsList FitsState) box.program
   pub at : FitsOption (λ n. n < 2 ^ 32) box.at
   pub told : FitsOption (λ n. n < 2 ^ 8) box.told
+
+-- no program has these states
+abbrev pub NoProgram : Option (List ProgStateState) → Type 0
+NoProgram None = ⊥
+NoProgram (Some states) = IsProgram states → ⊥

@@ -10,6 +10,7 @@ use Rattle.mc_snapshot.specs.Boxes.{box_wire, byte_wire, progress_wire, slots_wi
 use Rattle.mc_snapshot.specs.Forms.{each_wire, list_wire, option_wire, pair_wire}
 use Rattle.mc_snapshot.specs.Kinds.{flag_number}
 use Rattle.mc_snapshot.specs.Rules.{guard_wire, rule_wire, state_wire}
+use Rattle.mc_snapshot.specs.Shards.{counts_wire, places_wire, reached_wire, shard_wire}
 use Rattle.mc_snapshot.specs.Slots.{address_wire, goal_wire, media_wire, slot_wire}
 
 -- a form is longer than what comes after it
@@ -162,3 +163,23 @@ box_long box more =
     let receives = codecs_long box.receives (codecs_wire box.sends (word4 box.first_version (slots_wire box rest))) in
     let number = word4_long box.number (codecs_wire box.receives (codecs_wire box.sends (word4 box.first_version (slots_wire box rest)))) in
     omega (arith, told, at, program, media, goals, slots, version, sends, receives, number)
+
+pub places_long : IsLong places_wire
+places_long places more = list_long (pair_wire word4 byte_wire) (pair_long word4 byte_wire word4_long byte_long) places more
+
+pub reached_long : IsLong reached_wire
+reached_long reached more =
+    let digest = word8_long reached.digest more in
+    let count = word8_long reached.count (word8 reached.digest more) in
+    omega (arith, digest, count)
+
+pub shard_long : IsLong shard_wire
+shard_long shard more =
+    let asked = list_long word8 word8_long shard.state.asked more in
+    let taken = list_long reached_wire reached_long shard.state.taken (list_wire word8 shard.state.asked more) in
+    let sent = list_long reached_wire reached_long shard.state.sent (list_wire reached_wire shard.state.taken (list_wire word8 shard.state.asked more)) in
+    let owners = list_long word4 word4_long shard.owners (counts_wire shard more) in
+    let places = list_long places_wire places_long shard.places (list_wire word4 shard.owners (counts_wire shard more)) in
+    let boxes = list_long box_wire box_long shard.state.boxes (list_wire places_wire shard.places (list_wire word4 shard.owners (counts_wire shard more))) in
+    let stamp = word8_long shard.state.stamp (list_wire box_wire shard.state.boxes (list_wire places_wire shard.places (list_wire word4 shard.owners (counts_wire shard more)))) in
+    omega (arith, asked, taken, sent, owners, places, boxes, stamp)

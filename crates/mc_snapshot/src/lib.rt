@@ -4,8 +4,11 @@
 pub mod boxes;
 mod kinds;
 pub mod lists;
+mod making;
 mod media;
+mod programs;
 mod rules;
+pub mod shards;
 mod slots;
 pub mod wire;
 

@@ -1,0 +1,6 @@
+use Rattle.std.proofs.Common.{◌≡◌, ◌++◌}
+use Rattle.mc_snapshot.proofs.making.places_of.Given as goal
+
+-- the places so far, and those of the fields that are left, are those of all
+abbrev pub invariant-loop-fields : goal.invariant-loop-fields
+invariant-loop-fields l = l.places.items ++ l.fields-iterator.rest.items ≡ l.fn.all.items
