@@ -3,6 +3,7 @@
 use mc_entry::EntryFault;
 use mc_shard::{Refused, ReplayRefused};
 use mc_shard_merge::MergeFault;
+use mc_snapshot::SnapshotFault;
 use std::alloc::AllocError;
 
 /// Why a shard isn't made, or makes no turn.
@@ -21,6 +22,8 @@ pub enum TestFault {
     NoMemory(AllocError),
     /// Journals aren't merged.
     Merge(MergeFault),
+    /// Bytes are no shard's, or memory ran out.
+    Snapshot(SnapshotFault),
 }
 
 impl From<Refused> for TestFault {
@@ -50,5 +53,11 @@ impl From<AllocError> for TestFault {
 impl From<MergeFault> for TestFault {
     fn from(e: MergeFault) -> Self {
         TestFault::Merge(e)
+    }
+}
+
+impl From<SnapshotFault> for TestFault {
+    fn from(e: SnapshotFault) -> Self {
+        TestFault::Snapshot(e)
     }
 }

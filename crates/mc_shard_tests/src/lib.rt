@@ -1,5 +1,5 @@
 //! Tests of shards: a call between two of them, requests that are made once, what they refuse, their journals made again,
-//! compared and merged, the bytes of entries, and what is seen before an entry stands.
+//! compared and merged, the bytes of entries, snapshots, and what is seen before an entry stands.
 #![tactic(auto)]
 
 #[cfg(test)]
@@ -20,5 +20,7 @@ mod merged;
 mod phones;
 #[cfg(test)]
 mod refusals;
+#[cfg(test)]
+mod saved;
 #[cfg(test)]
 mod written;

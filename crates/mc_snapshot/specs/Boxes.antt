@@ -2,6 +2,7 @@
 use Rattle.std.specs.Prelude.{ℕ, ◌<◌, ◌^◌, List, ◌∷◌, Option, Some, None}
 use Rattle.mc_rule.specs.Programs.{IsProgram, ProgStateState}
 use Rattle.mc_entry.specs.Wire.{codecs_wire, word4}
+use Rattle.mc_box.specs.BoxSound.{IsSoundBox}
 use Rattle.mc_box.specs.Boxes.{BoxState}
 use Rattle.mc_snapshot.specs.Forms.{FitsList, FitsOption, list_wire, option_wire}
 use Rattle.mc_snapshot.specs.Kinds.{kind_number}
@@ -44,3 +45,8 @@ pub record FitsBox (box : BoxState) : Type 0 where
 abbrev pub NoProgram : Option (List ProgStateState) → Type 0
 NoProgram None = ⊥
 NoProgram (Some states) = IsProgram states → ⊥
+
+-- what is known of a box that was written
+pub record IsWritten (box : BoxState) : Type 0 where
+  pub fits : FitsBox box
+  pub sound : IsSoundBox box

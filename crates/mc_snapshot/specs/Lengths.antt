@@ -1,5 +1,5 @@
 -- No form is empty.
-use Rattle.std.proofs.Common.{◌≡◌, ℕ, ◌+◌, ◌<◌, ◌≤◌, List, [], ◌∷◌, ◌++◌, length, replicate, Option, Some, None, refl, arith}
+use Rattle.std.proofs.Common.{◌≡◌, ℕ, ◌+◌, ◌<◌, ◌≤◌, List, [], ◌∷◌, ◌++◌, length, replicate, Some, None, refl, arith}
 use Rattle.std.proofs.lemmas.List.{length-append}
 use Rattle.std.specs.Int.{to_le_bytes, w16, w32, w64}
 use Rattle.mc_entry.specs.Wire.{codec_wire, codecs_wire, descriptor_wire, selector_wire, word2, word4, word8, zeros}

@@ -1,11 +1,11 @@
 -- The form of a shard.
-use Rattle.std.specs.Prelude.{ℕ, ◌<◌, ◌≤◌, ◌^◌, List, [], ◌∷◌, length}
+use Rattle.std.specs.Prelude.{ℕ, ◌<◌, ◌≤◌, ◌^◌, List, ◌∷◌, length}
 use Rattle.std.specs.List.{AllByRecursion}
 use Rattle.mc_entry.specs.Wire.{word4, word8}
 use Rattle.mc_box.specs.BoxSound.{IsSoundBox}
 use Rattle.mc_shard.specs.Shards.{IsShaped, LaidShard}
 use Rattle.mc_shard.specs.declared.reached.Reached.{Reached}
-use Rattle.mc_snapshot.specs.Boxes.{FitsBox, box_wire, byte_wire}
+use Rattle.mc_snapshot.specs.Boxes.{FitsBox, IsWritten, box_wire, byte_wire}
 use Rattle.mc_snapshot.specs.Forms.{FitsList, FitsPair, list_wire, pair_wire}
 use Rattle.mc_snapshot.specs.declared.shards.TheConstants.{SNAPSHOT_VERSION}
 
@@ -53,3 +53,18 @@ pub record IsKept (shard : LaidShard) : Type 0 where
   pub shaped : IsShaped shard
   pub boxes : AllByRecursion IsSoundBox shard.state.boxes
   pub places : AllByRecursion AreFewPlaces shard.places
+
+-- ---- what is known of a shard that was written
+
+pub record ArePlacesWritten (places : List (ℕ × ℕ)) : Type 0 where
+  pub fits : FitsPlaces places
+  pub few : AreFewPlaces places
+
+pub record IsShardWritten (shard : LaidShard) : Type 0 where
+  pub stamp : shard.state.stamp < 2 ^ 64
+  pub boxes : FitsList IsWritten shard.state.boxes
+  pub places : FitsList ArePlacesWritten shard.places
+  pub owners : FitsList (λ n. n < 2 ^ 32) shard.owners
+  pub sent : FitsList FitsReached shard.state.sent
+  pub taken : FitsList FitsReached shard.state.taken
+  pub asked : FitsList (λ n. n < 2 ^ 64) shard.state.asked

@@ -1,10 +1,10 @@
-//! Boxes as bytes.
+// Boxes as bytes.
 
 ghost use Rattle.std.specs.Prelude.{◌≡◌, IfOk, OnOk};
 ghost use Rattle.mc_entry.specs.Reading.{Reads};
 ghost use Rattle.mc_entry.specs.Wire.{Writes};
 ghost use Rattle.mc_box.specs.BoxSound.{box_state};
-ghost use Rattle.mc_snapshot.specs.Boxes.{FitsBox, box_wire};
+ghost use Rattle.mc_snapshot.specs.Boxes.{FitsBox, IsWritten, box_wire};
 ghost use Rattle.mc_snapshot.specs.Forms.{FitsList, FitsOption, list_wire, option_wire, states_in};
 ghost use Rattle.mc_snapshot.specs.Lengths.{box_long};
 ghost use Rattle.mc_snapshot.specs.Rules.{FitsState, state_wire};
@@ -104,9 +104,10 @@ fn put_parts(parts: &BoxParts, out: &mut Vec<u8>) -> Result<(), AllocError>
 impl Put for MediaBox {
     ghost wire = { box_wire };
 
-    ghost Fits = { FitsBox };
+    ghost Fits = { IsWritten };
 
     fn put(&self, out: &mut Vec<u8>) -> Result<(), AllocError> {
+        self.keeps();
         put_parts(self.parts(), out)
     }
 }

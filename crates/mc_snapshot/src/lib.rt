@@ -1,16 +1,15 @@
-//! Snapshots: a shard, and so a box, written down and made again.
+//! Snapshots: a shard, and so a box, written down as bytes and made again, in the place of all of its journal up to then.
 #![tactic(auto)]
 
-pub mod boxes;
+mod boxes;
 mod kinds;
-pub mod lists;
+mod lists;
 mod making;
 mod media;
 mod programs;
 mod rules;
-pub mod shards;
+mod shards;
 mod slots;
-pub mod wire;
+mod wire;
 
-pub use lists::{get_list, put_list};
-pub use wire::{Get, Put};
+pub use shards::{SNAPSHOT_VERSION, SnapshotFault, read_shard, write_shard};

@@ -1,4 +1,4 @@
-//! Lists of values, written one after another after their number.
+// Lists of values, written one after another after their number.
 
 ghost use Rattle.std.specs.Prelude.{◌≡◌, length, IfOk, OnOk};
 ghost use Rattle.std.specs.List.{AllByRecursion};

@@ -1,10 +1,10 @@
-//! Shards as bytes.
+// Shards as bytes.
 
 ghost use Rattle.std.specs.Prelude.{◌≡◌, [], IfErr, IfNone, IfOk, IfSome, MatchBool, MatchOption, OnOk};
 ghost use Rattle.mc_entry.specs.Wire.{Writes};
 ghost use Rattle.mc_shard.specs.Shards.{LaidShard, shard_of};
 ghost use Rattle.mc_snapshot.specs.Lengths.{places_long, reached_long, shard_long};
-ghost use Rattle.mc_snapshot.specs.Shards.{FitsPlaces, FitsReached, FitsShard, IsKept, places_wire, reached_wire, shard_wire};
+ghost use Rattle.mc_snapshot.specs.Shards.{ArePlacesWritten, FitsPlaces, FitsReached, FitsShard, IsKept, IsShardWritten, places_wire, reached_wire, shard_wire};
 
 use crate::boxes::BoxFields;
 use crate::lists::{get_list, put_list};
@@ -65,7 +65,7 @@ impl Model for ShardFields {
 impl Put for SlotPlaces {
     ghost wire = { places_wire };
 
-    ghost Fits = { FitsPlaces };
+    ghost Fits = { ArePlacesWritten };
 
     fn put(&self, out: &mut Vec<u8>) -> Result<(), AllocError> {
         put_list(self.list(), out)
@@ -112,7 +112,7 @@ impl Get for Reached {
 
 // All that a shard keeps.
 fn put_parts(parts: &ShardParts, out: &mut Vec<u8>) -> Result<(), AllocError>
-    ensures fits { OnOk result (FitsShard (shard_of parts.now)) }
+    ensures fits { OnOk result (IsShardWritten (shard_of parts.now)) }
     ensures writes { OnOk result (Writes out.old.items out.new.items (shard_wire (shard_of parts.now))) }
 {
     SNAPSHOT_VERSION.put(out)?;
@@ -128,7 +128,7 @@ fn put_parts(parts: &ShardParts, out: &mut Vec<u8>) -> Result<(), AllocError>
 impl Put for Shard {
     ghost wire = { shard_wire };
 
-    ghost Fits = { FitsShard };
+    ghost Fits = { IsShardWritten };
 
     fn put(&self, out: &mut Vec<u8>) -> Result<(), AllocError> {
         put_parts(self.parts(), out)

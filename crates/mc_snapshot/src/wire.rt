@@ -1,4 +1,4 @@
-//! Values that are written as bytes and read again.
+// Values that are written as bytes and read again.
 
 ghost use Rattle.std.specs.Prelude.{◌≡◌, ◌∷◌, ◌<◌, ◌^◌, List, ℕ, length, IfOk, OnOk};
 ghost use Rattle.mc_entry.specs.Reading.{Reads};

@@ -1,4 +1,4 @@
-use Rattle.std.proofs.Common.{◌<◌, length, subst, rules}
+use Rattle.std.proofs.Common.{◌<◌, length, rules}
 use Rattle.mc_snapshot.proofs.Listing.{too_long}
 use Rattle.mc_snapshot.proofs.lists.get_list.Goals as goal
 
