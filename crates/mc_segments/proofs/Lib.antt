@@ -1,0 +1,3 @@
+mod Followed
+mod Own
+mod Places

@@ -1,0 +1,23 @@
+//! Laws of the places at which turns settle: each function's contract is the law's sentence.
+
+ghost use Rattle.mc_segments.specs.Laws.{CommandsAreAllowed, EachTurnOnce, EndsMakeJournal, OneListOfEnds};
+
+/// Turns have one list of ends.
+pub fn one_list_of_ends()
+    ensures { OneListOfEnds }
+{}
+
+/// Turns with marks at their ends are a journal, whose batches are the commands of each segment.
+pub fn ends_make_journal()
+    ensures { EndsMakeJournal }
+{}
+
+/// Each turn before the last end is in this journal once, in order. The rest comes after it.
+pub fn each_turn_once()
+    ensures { EachTurnOnce }
+{}
+
+/// The world allows all of these commands, where the turns are a run of it.
+pub fn commands_are_allowed()
+    ensures { CommandsAreAllowed }
+{}
