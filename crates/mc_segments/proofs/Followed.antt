@@ -1,5 +1,5 @@
 -- Turns as they are followed: at a place a segment ends or goes on, and then a turn comes.
-use Rattle.std.proofs.Common.{◌≡◌, ◌≢◌, ◌<◌, ◌≤◌, ◌+◌, ◌++◌, inl, inr, get_or, ℕ, Bool, true, false, List, [], ◌∷◌, IsTrue, Some, None, Result, Ok, Err, Vec, length, take, slice_get, append_assoc, append-nil, take_all, refl, ap, sym, ◌∙◌, subst, arith}
+use Rattle.std.proofs.Common.{◌≡◌, ◌<◌, ◌≤◌, ◌+◌, ◌++◌, inl, inr, get_or, ℕ, Bool, true, false, List, [], ◌∷◌, Some, Err, Vec, length, take, slice_get, append_assoc, append-nil, take_all, refl, ap, sym, ◌∙◌, subst, arith}
 use Rattle.std.specs.declared.alloc.Global.{Global}
 use Rattle.std.proofs.lemmas.Bool.{cases_eq, cases_lt}
 use Rattle.std.proofs.lemmas.Option.{slice_get-get_or}

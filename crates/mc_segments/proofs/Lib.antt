@@ -1,3 +1,5 @@
+mod Allowed
 mod Followed
+mod Marked
 mod Own
 mod Places

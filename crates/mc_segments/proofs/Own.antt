@@ -1,5 +1,5 @@
 -- A segment whose batch is its own commands, as a turn comes.
-use Rattle.std.proofs.Common.{◌≡◌, ◌<◌, ◌≤◌, ◌++◌, ◌==◌, ◌&&◌, cond, if◌then◌else◌, ℕ, Bool, true, false, List, [], ◌∷◌, IsTrue, Some, None, Result, Err, Ok, length, append-nil, refl, ap, sym, ◌∙◌, subst, arith}
+use Rattle.std.proofs.Common.{◌≡◌, ◌≤◌, ◌++◌, ◌==◌, ◌&&◌, cond, if◌then◌else◌, ℕ, Bool, true, false, List, [], ◌∷◌, Some, Result, Err, length, append-nil, refl, ap, sym, ◌∙◌, subst, arith}
 use Rattle.std.proofs.lemmas.List.Elements.{filter-append}
 use Rattle.mc_box.specs.BoxEvents.{is_command}
 use Rattle.mc_box.specs.declared.event.Event.{Event}
@@ -8,7 +8,7 @@ use Rattle.mc_box.specs.declared.event.Turn.{Turn}
 use Rattle.mc_laws.proofs.ShapesKept.{run_keeps_shape, step_keeps_shape}
 use Rattle.mc_model.specs.Settles.{commands_of, rests, takes_or_retries}
 use Rattle.mc_model.specs.Sound.{IsSound}
-use Rattle.mc_model.specs.Steps.{after, run, step}
+use Rattle.mc_model.specs.Steps.{step}
 use Rattle.mc_model.specs.Worlds.{WorldState, slot_count}
 use Rattle.mc_seq.specs.Commands.{commands_left}
 use Rattle.mc_seq.specs.Schedule.{without_next}

@@ -1,10 +1,9 @@
 -- Turns up to a place, and between two.
-use Rattle.std.proofs.Common.{◌≡◌, ◌<◌, ◌≤◌, ◌+◌, ◌++◌, ℕ, zero, suc, List, [], ◌∷◌, Option, Some, None, length, take, drop, slice_get, take-take, add-one, refl, ap, sym, ◌∙◌, subst, arith}
-use Rattle.std.proofs.lemmas.List.{take-append-drop, drop-append-le, length-take-le}
+use Rattle.std.proofs.Common.{◌≡◌, ◌<◌, ◌≤◌, ◌+◌, ◌-◌, ◌++◌, min, ℕ, zero, suc, List, [], ◌∷◌, Some, length, take, drop, slice_get, take-take, add-one, refl, ap, sym, ◌∙◌, arith}
+use Rattle.std.proofs.lemmas.List.{take-append-drop, drop-append-le, length-take-le, length-drop, take_all, take_min, drop_min}
 use Rattle.mc_box.specs.declared.event.Turn.{Turn}
 use Rattle.mc_model.specs.Steps.{after, run}
 use Rattle.mc_model.specs.Worlds.{WorldState}
-use Rattle.mc_replay.proofs.Prefixes.{after_is, run_parts}
 use Rattle.mc_seq.proofs.Runs.{run-append}
 use Rattle.mc_segments.specs.Ends.{turns_between}
 
@@ -38,3 +37,15 @@ pub run_between : (world last : WorldState) (turns : List Turn) (from place : �
     → run (after world (take from turns)) (turns_between from place turns) ≡ Some last → run world (take place turns) ≡ Some last
 run_between world last turns from place before began runs =
     ap (run world) (sym (take_between turns from place before)) ∙ (run-append (take from turns) (turns_between from place turns) world (after world (take from turns)) began ∙ runs)
+
+-- all that are left after a place
+take_rest : (turns : List Turn) (begin : ℕ) → take (length turns - begin) (drop begin turns) ≡ drop begin turns
+take_rest turns begin = take_all (length turns - begin) (drop begin turns) (let long = length-drop begin turns in omega (arith, long))
+
+-- the turns between two places, whether these are beyond the length or not
+pub between_within : (turns : List Turn) (from place end begin : ℕ) → end ≡ min place (length turns) → begin ≡ min from (length (take end turns))
+    → take (length (take end turns) - begin) (drop begin (take end turns)) ≡ turns_between from place turns
+between_within turns from place end begin last first =
+    take_rest (take end turns) begin
+    ∙ (ap (λ (k : ℕ). drop k (take end turns)) first ∙ drop_min from (take end turns)
+    ∙ ap (drop from) (ap (λ (k : ℕ). take k turns) last ∙ take_min place turns))

@@ -4,7 +4,9 @@
 mod ends;
 mod fault;
 mod following;
+mod journal;
 pub mod laws;
 
 pub use ends::{Segments, settled_ends};
 pub use fault::SegmentsFault;
+pub use journal::{settled_batches, settled_lines};
