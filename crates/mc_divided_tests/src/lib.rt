@@ -15,6 +15,8 @@ mod plans;
 #[cfg(test)]
 mod programs;
 #[cfg(test)]
+mod segments;
+#[cfg(test)]
 mod settles;
 #[cfg(test)]
 mod steps;

@@ -17,7 +17,7 @@ const FEATURE: u32 = 1;
 const BOB: u32 = 2;
 
 // The turns of a call through a feature: alice opens and bob holds, then bob closes, alice tries again, and is refused.
-const TURNS: [(u32, Event); 23] = [
+pub const TURNS: [(u32, Event); 23] = [
     (FEATURE, Event::Set(Change::Link(0, 1))),
     (ALICE, Event::Set(Change::End(0, Goal::Open))),
     (BOB, Event::Set(Change::End(0, Goal::Hold))),

@@ -1,3 +1,4 @@
+mod AllEnds
 mod Allowed
 mod Followed
 mod Marked

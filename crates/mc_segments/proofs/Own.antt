@@ -54,7 +54,7 @@ commands_same turns turn is =
 -- ---- its moments
 
 -- a command is no Take and no retry
-comes_before : (event : Event) → is_command event ≡ true → takes_or_retries event ≡ false
+pub comes_before : (event : Event) → is_command event ≡ true → takes_or_retries event ≡ false
 comes_before (Take local) is = absurd (cc)
 comes_before (Set change) is = refl
 comes_before (Media change) is = refl

@@ -1,5 +1,5 @@
 -- Laws of the places at which turns settle, and the journals that have their marks there.
-use Rattle.std.specs.Prelude.{◌≡◌, ℕ, ◌++◌, List, [], ◌∷◌, drop, Some}
+use Rattle.std.specs.Prelude.{◌≡◌, ◌↔◌, ℕ, ◌++◌, List, [], ◌∷◌, Contains, drop, Some}
 use Rattle.mc_box.specs.declared.event.Turn.{Turn}
 use Rattle.mc_model.specs.Shapes.{AreAllAllowed}
 use Rattle.mc_model.specs.Sound.{IsSound}
@@ -8,7 +8,7 @@ use Rattle.mc_model.specs.Worlds.{WorldState}
 use Rattle.mc_script.specs.declared.command.JournalLine.{JournalLine}
 use Rattle.mc_replay.specs.Journals.{IsJournal, lines_for}
 use Rattle.mc_replay.specs.Told.{turns_among}
-use Rattle.mc_segments.specs.Ends.{AreEnds, commands_in, turns_between}
+use Rattle.mc_segments.specs.Ends.{AreEnds, IsEnd, commands_in, turns_between}
 
 -- the lines of the settles that begin at a place and end at these: the turns of each, with a mark after them
 abbrev pub settled_lines : List Turn → ℕ → List ℕ → List JournalLine
@@ -35,6 +35,14 @@ abbrev pub OneListOfEnds : Type 0
 OneListOfEnds =
     (world : WorldState) (turns : List Turn) (ends others : List ℕ)
     → AreEnds world turns 0 ends → AreEnds world turns 0 others → ends ≡ others
+
+-- it doesn't matter that a settle begins where the one before it ends: the ends are all places at which the turns from
+-- the first on settle their own commands, and a settle may end
+abbrev pub EndsAreAll : Type 0
+EndsAreAll =
+    (world : WorldState) (turns : List Turn) (ends : List ℕ)
+    → AreEnds world turns 0 ends
+    → (place : ℕ) → Contains ends place ↔ IsEnd world turns 0 place
 
 -- with marks at their ends turns are a journal of their own commands
 abbrev pub EndsMakeJournal : Type 0

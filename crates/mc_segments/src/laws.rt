@@ -1,10 +1,15 @@
 //! Laws of the places at which turns settle: each function's contract is the law's sentence.
 
-ghost use Rattle.mc_segments.specs.Laws.{CommandsAreAllowed, EachTurnOnce, EndsMakeJournal, OneListOfEnds};
+ghost use Rattle.mc_segments.specs.Laws.{CommandsAreAllowed, EachTurnOnce, EndsAreAll, EndsMakeJournal, OneListOfEnds};
 
 /// Turns have one list of ends.
 pub fn one_list_of_ends()
     ensures { OneListOfEnds }
+{}
+
+/// The ends are the places at which all turns so far settle their own commands, before a command or the end.
+pub fn ends_are_all()
+    ensures { EndsAreAll }
 {}
 
 /// Turns with marks at their ends are a journal, whose batches are the commands of each segment.
