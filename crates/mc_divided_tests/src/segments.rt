@@ -4,17 +4,20 @@ use crate::equal::is_equal;
 use crate::fault::TestFault;
 use crate::networks::row;
 use crate::steps::TURNS;
-use mc_box::Turn;
+use mc_box::{Event, Turn};
 use mc_script::{Batch, JournalLine};
 use mc_segments::{SegmentsFault, settled_batches, settled_ends, settled_lines};
 use std::alloc::{AllocError, Global};
 use std::process::Abort;
 
-// The turns of the call through a feature.
-fn call(alloc: Global) -> Result<Vec<Turn>, AllocError> {
+// Some of the turns of the call through a feature.
+fn call(alloc: Global, part: &[(u32, Event)]) -> Result<Vec<Turn>, AllocError> {
     let mut turns = Vec::new(alloc);
-    for (who, event) in TURNS {
-        turns.push(Turn { who, event })?;
+    for (who, event) in part {
+        turns.push(Turn {
+            who: *who,
+            event: *event,
+        })?;
     }
     Ok(turns)
 }
@@ -49,13 +52,14 @@ fn marks(alloc: Global, lines: &[JournalLine]) -> Result<Vec<usize>, AllocError>
     Ok(marks)
 }
 
-// The call's turns settle at these places.
+// These turns settle at these places.
 fn settles_at<R: Abort + AllocGlobal>(
     rt: &R,
-    turns: &[Turn],
+    part: &[(u32, Event)],
     ends: &[usize],
 ) -> Result<(), TestFault> {
-    let got = ends_of(rt.alloc(), turns)?;
+    let turns = call(rt.alloc(), part)?;
+    let got = ends_of(rt.alloc(), &turns)?;
     is_equal(
         rt,
         &got.as_ref().map(|got| got.as_slice()).ok(),
@@ -66,25 +70,24 @@ fn settles_at<R: Abort + AllocGlobal>(
 
 #[test]
 fn a_call_settles_before_commands_and_at_its_end(rt: HostRuntime) -> Result<(), TestFault> {
-    let turns = call(rt.alloc())?;
     // the link; then the call, which flows; then bob closes, and alice tries again once
-    settles_at(&rt, &turns, &[1, 11, 23])?;
+    settles_at(&rt, &TURNS, &[1, 11, 23])?;
     // before the retry nothing is under way, but it is owed
-    settles_at(&rt, &turns[..16], &[1, 11])
+    settles_at(&rt, &TURNS[..16], &[1, 11])
 }
 
 #[test]
 fn nothing_is_taken_where_nothing_was_sent(rt: HostRuntime) -> Result<(), TestFault> {
-    let turns = call(rt.alloc())?;
     // bob closes what is closed
-    let got = ends_of(rt.alloc(), &turns[11..])?;
+    let turns = call(rt.alloc(), &TURNS[11..])?;
+    let got = ends_of(rt.alloc(), &turns)?;
     is_equal(&rt, &got.err(), &Some(1));
     Ok(())
 }
 
 #[test]
 fn a_mark_stands_after_each_settle(rt: HostRuntime) -> Result<(), TestFault> {
-    let turns = call(rt.alloc())?;
+    let turns = call(rt.alloc(), &TURNS)?;
     let lines = settled_lines(rt.alloc(), &turns, &[1, 11])?;
     is_equal(&rt, &lines.len(), &13);
     is_equal(
@@ -97,7 +100,7 @@ fn a_mark_stands_after_each_settle(rt: HostRuntime) -> Result<(), TestFault> {
 
 #[test]
 fn a_batch_has_the_commands_of_its_settle(rt: HostRuntime) -> Result<(), TestFault> {
-    let turns = call(rt.alloc())?;
+    let turns = call(rt.alloc(), &TURNS)?;
     let batches = settled_batches(rt.alloc(), &turns, &[1, 11, 23])?;
     is_equal(
         &rt,

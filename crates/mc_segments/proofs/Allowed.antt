@@ -20,7 +20,7 @@ use Rattle.mc_seq.proofs.AllowedCommands.{all_kept}
 use Rattle.mc_settings.proofs.AlikeWorlds.{shape_back}
 use Rattle.mc_replay.proofs.Prefixes.{moment_goes}
 use Rattle.mc_segments.specs.Ends.{AreEnds, commands_in, turns_between}
-use Rattle.mc_segments.specs.Laws.{settled_batches}
+use Rattle.mc_segments.specs.Lines.{settled_batches}
 
 -- ---- one command
 

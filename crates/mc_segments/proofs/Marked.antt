@@ -9,7 +9,7 @@ use Rattle.mc_script.specs.declared.command.JournalLine.{JournalLine}
 use Rattle.mc_replay.specs.Journals.{IsJournal, lines_for}
 use Rattle.mc_replay.specs.Told.{turns_among}
 use Rattle.mc_segments.specs.Ends.{AreEnds, IsFirstEnd, turns_between}
-use Rattle.mc_segments.specs.Laws.{last_end, settled_batches, settled_lines}
+use Rattle.mc_segments.specs.Lines.{last_end, settled_batches, settled_lines}
 use Rattle.mc_segments.proofs.Places.{take_between}
 
 -- ---- one list

@@ -1,34 +1,16 @@
--- Laws of the places at which turns settle, and the journals that have their marks there.
-use Rattle.std.specs.Prelude.{◌≡◌, ◌↔◌, ℕ, ◌++◌, List, [], ◌∷◌, Contains, drop, Some}
+-- Laws of the places at which turns settle, and of the journal that has its marks there.
+use Rattle.std.specs.Prelude.{◌≡◌, ◌≢◌, ◌↔◌, ℕ, ◌++◌, IsTrue, List, [], ◌∷◌, Contains, length, slice_get, Some}
 use Rattle.mc_box.specs.declared.event.Turn.{Turn}
 use Rattle.mc_model.specs.Shapes.{AreAllAllowed}
 use Rattle.mc_model.specs.Sound.{IsSound}
 use Rattle.mc_model.specs.Steps.{run}
 use Rattle.mc_model.specs.Worlds.{WorldState}
 use Rattle.mc_script.specs.declared.command.JournalLine.{JournalLine}
-use Rattle.mc_replay.specs.Journals.{IsJournal, lines_for}
+use Rattle.mc_script.specs.declared.command.JournalLine.TheVariants.{Settled}
+use Rattle.mc_replay.specs.Journals.{IsJournal}
 use Rattle.mc_replay.specs.Told.{turns_among}
-use Rattle.mc_segments.specs.Ends.{AreEnds, IsEnd, commands_in, turns_between}
-
--- the lines of the settles that begin at a place and end at these: the turns of each, with a mark after them
-abbrev pub settled_lines : List Turn → ℕ → List ℕ → List JournalLine
-settled_lines turns from [] = []
-settled_lines turns from (place ∷ ends) = lines_for (turns_between from place turns) ++ settled_lines turns place ends
-
--- and the commands of each
-abbrev pub settled_batches : List Turn → ℕ → List ℕ → List (List Turn)
-settled_batches turns from [] = []
-settled_batches turns from (place ∷ ends) =
-    commands_in (turns_between from place turns) ∷ settled_batches turns place ends
-
--- where the last one ends
-abbrev pub last_end : ℕ → List ℕ → ℕ
-last_end from [] = from
-last_end from (place ∷ ends) = last_end place ends
-
--- the turns after it
-abbrev pub unsettled_turns : List Turn → List ℕ → List Turn
-unsettled_turns turns ends = drop (last_end 0 ends) turns
+use Rattle.mc_segments.specs.Ends.{AreEnds, IsEnd, may_end}
+use Rattle.mc_segments.specs.Lines.{settled_batches, settled_lines, unsettled_turns}
 
 -- no two lists
 abbrev pub OneListOfEnds : Type 0
@@ -43,6 +25,17 @@ EndsAreAll =
     (world : WorldState) (turns : List Turn) (ends : List ℕ)
     → AreEnds world turns 0 ends
     → (place : ℕ) → Contains ends place ↔ IsEnd world turns 0 place
+
+-- no mark of a journal is missed, whatever its batches: where turns stand before a mark, and after it a command or no
+-- turn, the mark stands at an end
+abbrev pub NoMarkIsMissed : Type 0
+NoMarkIsMissed =
+    (world : WorldState) (batches : List (List Turn)) (before behind : List JournalLine) (ends : List ℕ)
+    → IsJournal world batches (before ++ Settled ∷ behind)
+    → AreEnds world (turns_among (before ++ behind)) 0 ends
+    → turns_among before ≢ []
+    → IsTrue (may_end (slice_get (turns_among behind) 0))
+    → Contains ends (length (turns_among before))
 
 -- with marks at their ends turns are a journal of their own commands
 abbrev pub EndsMakeJournal : Type 0

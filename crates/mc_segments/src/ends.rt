@@ -22,7 +22,8 @@ pub struct Segments {
 /// an end where the turns since the end before it are some, and settle the commands among them. A journal of the turns
 /// has its marks there.
 ///
-/// A turn takes no longer in a larger network; an end takes time in proportion to the boxes.
+/// A turn takes no longer in a larger network. An end takes time in proportion to the boxes. Where all has settled but
+/// for a ring of links, a command takes time by the whole network.
 pub fn settled_ends(alloc: Global, world: World, turns: &[Turn]) -> Result<Segments, SegmentsFault>
     ensures ends { IfOk result (λ segments. AreEnds world turns.now 0 segments.ends.items) }
     ensures runs { IfOk result (λ segments. run world turns.now ≡ Some segments.world) }

@@ -4,7 +4,7 @@ ghost use Rattle.std.specs.Prelude.{◌≡◌, ◌++◌, IfOk, OnOk, map};
 ghost use Rattle.mc_replay.specs.Journals.{lines_for};
 ghost use Rattle.mc_script.specs.Batches.{batch_turns};
 ghost use Rattle.mc_segments.specs.Ends.{commands_in, turns_between};
-ghost use Rattle.mc_segments.specs.Laws.{settled_batches, settled_lines};
+ghost use Rattle.mc_segments.specs.Lines.{settled_batches, settled_lines};
 
 use mc_box::Turn;
 use mc_script::{Batch, JournalLine};

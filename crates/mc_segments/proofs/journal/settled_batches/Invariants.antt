@@ -1,6 +1,6 @@
 use Rattle.std.proofs.Common.{◌≡◌, ◌++◌, drop, map}
 use Rattle.mc_script.specs.Batches.{batch_turns}
-use Rattle.mc_segments.specs.Laws.{settled_batches}
+use Rattle.mc_segments.specs.Lines.{settled_batches}
 use Rattle.mc_segments.proofs.journal.settled_batches.Given as goal
 
 -- the batches so far, and those of the settles that are left

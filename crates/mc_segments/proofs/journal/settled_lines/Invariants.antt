@@ -1,5 +1,5 @@
 use Rattle.std.proofs.Common.{◌≡◌, ◌++◌, drop}
-use Rattle.mc_segments.specs.Laws.{settled_lines}
+use Rattle.mc_segments.specs.Lines.{settled_lines}
 use Rattle.mc_segments.proofs.journal.settled_lines.Given as goal
 
 -- the lines so far, and those of the settles that are left
