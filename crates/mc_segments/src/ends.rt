@@ -18,9 +18,8 @@ pub struct Segments {
     pub world: World,
 }
 
-/// The places at which turns from a world settle. Of the places before a command and the one after all turns, each is
-/// an end where the turns since the end before it are some, and settle the commands among them. A journal of the turns
-/// has its marks there.
+/// The places at which turns from a world settle. A settle ends where the turns since the end before it, one at least,
+/// settle the commands among them, and a command comes next or nothing. A journal of the turns has its marks there.
 ///
 /// A turn takes no longer in a larger network. An end takes time in proportion to the boxes. Where all has settled but
 /// for a ring of links, a command takes time by the whole network.
