@@ -1,0 +1,3 @@
+pub mod KeptValues
+pub mod Laid
+pub mod Written

@@ -1,0 +1,13 @@
+use Rattle.std.proofs.Common.{◌∙◌}
+use Rattle.mc_plain.proofs.Says.{says_box}
+use Rattle.mc_shard_c.proofs.boxes.box_from.Goals as goal
+
+pub returns : goal.returns
+returns c = record {
+  possible = c.requires;
+  receives = c.in_ok-setup.setup.codecs;
+  sends = c.in_ok-setup.setup.sends;
+  receives_these = c.in_ok-setup.ensures.receives;
+  sends_these = c.in_ok-setup.ensures.sends;
+  is = c.in_ok-part.ensures ∙ says_box c.args.plain.now c.args.slots.now c.args.states.now c.in_ok-setup.setup c.in_ok-setup.ensures;
+}

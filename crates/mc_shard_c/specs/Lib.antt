@@ -1,0 +1,9 @@
+pub mod Asking
+pub mod Exports
+pub mod Handles
+pub mod Kept
+pub mod Laying
+pub mod Seeing
+pub mod Texts
+pub mod Turns
+pub mod Waiting
