@@ -1,5 +1,5 @@
 -- Boxes that are laid out one after another.
-use Rattle.std.proofs.Common.{◌≡◌, ◌≤◌, ◌<◌, ℕ, ◌+◌, ◌^◌, suc, zero, false, true, List, [], ◌∷◌, ◌++◌, take, drop, length, map, refl, ap, sym, subst, ◌∙◌, arith, slice_set, append_assoc}
+use Rattle.std.proofs.Common.{◌≡◌, ◌≤◌, ◌<◌, ℕ, ◌+◌, ◌^◌, false, List, [], ◌∷◌, ◌++◌, take, drop, length, map, refl, ap, sym, subst, ◌∙◌, arith, slice_set, append_assoc}
 use Rattle.std.specs.Prelude.{replicate}
 use Rattle.std.proofs.lemmas.Grind.{common_steps}
 use Rattle.std.proofs.lemmas.List.{length-set}

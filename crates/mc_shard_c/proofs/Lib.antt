@@ -1,3 +1,4 @@
 pub mod KeptValues
 pub mod Laid
+pub mod Replayed
 pub mod Written

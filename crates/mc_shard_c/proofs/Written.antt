@@ -1,5 +1,5 @@
 -- What comes in front of a buffer.
-use Rattle.std.proofs.Common.{◌≡◌, ℕ, zero, suc, ◌+◌, List, [], ◌∷◌, length, drop, slice_get, Some, refl, arith}
+use Rattle.std.proofs.Common.{◌≡◌, ℕ, zero, suc, ◌+◌, List, [], ◌∷◌, length, drop, slice_get, Some, arith}
 use Rattle.mc_shard.specs.Journals.{EntryState}
 use Rattle.mc_entry.specs.Wire.{entry_wire}
 use Rattle.mc_shard_writer.specs.Writers.{WriterState}

@@ -1,5 +1,5 @@
 -- What the numbers of a request and of a signal at a channel end say, and the numbers that C is handed.
-use Rattle.std.specs.Prelude.{◌≡◌, ◌==◌, ℕ, Bool, if◌then◌else◌, nat_lt, Option, Some, None}
+use Rattle.std.specs.Prelude.{◌≡◌, ◌==◌, Bool, if◌then◌else◌, nat_lt, Option, Some, None}
 use Rattle.mc_plain.specs.Numbers.{Says, no_list, plain_of}
 use Rattle.mc_shard.specs.declared.entry.Asked.{Asked}
 use Rattle.mc_shard.specs.declared.entry.AtEnd.{AtEnd}

@@ -1,4 +1,5 @@
 pub mod Asking
+pub mod Entries
 pub mod Exports
 pub mod Handles
 pub mod Kept

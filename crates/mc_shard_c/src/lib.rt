@@ -6,6 +6,7 @@ ghost use Rattle.mc_plain.specs.Texts.{padded};
 ghost use Rattle.mc_plain.specs.Views.{box_view, slot_view};
 ghost use Rattle.mc_shard.specs.States.{box_in};
 ghost use Rattle.mc_shard_writer.specs.Writers.{Waits};
+ghost use Rattle.mc_shard_c.specs.Entries.{HasRead, HasReplayed, StaysOrGone, WhyNotRead};
 ghost use Rattle.mc_shard_c.specs.Exports.{writer_in};
 ghost use Rattle.mc_shard_c.specs.Handles.{Between, Of};
 ghost use Rattle.mc_shard_c.specs.Laying.{SaysNoShard, SaysWriter};
@@ -17,14 +18,17 @@ ghost use Rattle.mc_shard_c.specs.declared.answer.TheConstants.{OK, MEMORY, INVA
 mod answer;
 mod at_end;
 mod boxes;
+mod entry;
 mod handle;
 mod held;
 mod kept;
 mod laying;
+mod replaying;
 mod writing;
 
 use at_end::{PlainAsked, PlainAtEnd};
 use boxes::{PlainShardBox, PlainShardSlot};
+use entry::PlainEntry;
 use handle::Handle;
 use held::HeldShard;
 use laying::shard_of;
@@ -304,4 +308,39 @@ pub extern "C" fn media_shard_stands(
             answer::NO_SHARD
         }
     }
+}
+
+/// The entry that bytes begin with, which is the next of the shard's own journal, is made again and compared. How many
+/// of the bytes are its form comes into `size`. Where it isn't made again, the handle has no shard then.
+#[unsafe(no_mangle)]
+pub extern "C" fn media_shard_replay(
+    alloc: Global,
+    handle: &mut Handle,
+    bytes: &[u8],
+    size: &mut usize,
+) -> u32
+    ensures ok { result ≡ OK → Between (writer_in handle.old) (writer_in handle.new)
+        (λ old new. HasReplayed old bytes.now new size.new) }
+    ensures size { result ≢ OK → size.new ≡ 0 }
+    ensures no_shard { result ≡ NO_SHARD → (writer_in handle.old ≡ None) × (writer_in handle.new ≡ None) }
+    ensures why_not { result ≢ OK → result ≢ NO_SHARD → Of (writer_in handle.old)
+        (λ old. StaysOrGone old (writer_in handle.new) bytes.now result) }
+{
+    replaying::replay(alloc, handle, bytes, size)
+}
+
+/// The entry that bytes begin with, of any shard's journal, comes into `entry`, and what it sent into `out`.
+#[unsafe(no_mangle)]
+pub extern "C" fn media_entry_read(
+    alloc: Global,
+    bytes: &[u8],
+    entry: &mut PlainEntry,
+    out: &mut [PlainAtEnd],
+    count: &mut usize,
+) -> u32
+    ensures ok { result ≡ OK → HasRead bytes.now entry.new out.old out.new count.new }
+    ensures unchanged { result ≢ OK → (entry.new ≡ entry.old) × (out.new ≡ out.old) × (count.new ≡ 0) }
+    ensures why_not { result ≢ OK → WhyNotRead bytes.now (length out.old) result }
+{
+    entry::read_into(alloc, bytes, entry, out, count)
 }

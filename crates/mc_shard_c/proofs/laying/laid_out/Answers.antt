@@ -1,8 +1,6 @@
-use Rattle.std.proofs.Common.{◌∙◌, ◌≡◌, ◌+◌, ℕ, List, [], arith, drop, rules}
+use Rattle.std.proofs.Common.{◌≡◌, ◌+◌, [], arith, drop}
 use Rattle.std.proofs.lemmas.Grind.{common_steps}
 use Rattle.std.proofs.lemmas.List.{drop_all, drop_more}
-use Rattle.mc_plain.specs.declared.program.PlainState.{PlainState}
-use Rattle.mc_shard_c.specs.declared.boxes.PlainShardSlot.{PlainShardSlot}
 use Rattle.mc_shard_c.proofs.Laid.{lays_all, lays_step, none_here}
 use Rattle.mc_shard_c.proofs.laying.laid_out.Goals as goal
 

@@ -1,4 +1,4 @@
-use Rattle.std.proofs.Common.{◌∙◌, ◌<◌, ◌^◌, length, arith, rules, refl}
+use Rattle.std.proofs.Common.{◌<◌, ◌^◌, length, arith}
 use Rattle.mc_shard_c.proofs.Laid.{not_laid, says_shard}
 use Rattle.mc_shard_c.proofs.laying.shard_of.Goals as goal
 

@@ -1,4 +1,4 @@
-use Rattle.std.proofs.Common.{◌+◌, ◌<◌, length, drop, sym, arith, rules}
+use Rattle.std.proofs.Common.{◌+◌, ◌<◌, length, drop, sym, rules}
 use Rattle.mc_plain.proofs.Written.{written_next}
 use Rattle.mc_shard_c.specs.Asking.{plain_at}
 use Rattle.mc_shard_c.proofs.Written.{drop_got}

@@ -1,5 +1,4 @@
-use Rattle.std.proofs.Common.{◌∙◌, ap, sym, subst, ℕ}
-use Rattle.std.specs.Option.{is_some}
+use Rattle.std.proofs.Common.{sym, subst, ℕ}
 use Rattle.mc_shard_c.specs.Handles.{writer_of}
 use Rattle.mc_shard_c.specs.Turns.{WhyNotArrived}
 use Rattle.mc_shard_c.specs.Turns.WhyNotArrived.{waits, no_signal, refused}

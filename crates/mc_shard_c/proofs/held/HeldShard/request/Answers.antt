@@ -1,4 +1,4 @@
-use Rattle.std.proofs.Common.{◌∙◌, ap, sym, subst, ℕ, Option}
+use Rattle.std.proofs.Common.{◌∙◌, sym, subst, ℕ, Option}
 use Rattle.mc_shard.specs.Refusals.{HindersAsked}
 use Rattle.mc_shard.specs.declared.entry.Asked.{Asked}
 use Rattle.mc_shard_c.specs.Handles.{writer_of}
