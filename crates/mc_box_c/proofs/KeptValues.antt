@@ -25,7 +25,7 @@ use Rattle.mc_box_c.specs.Kept.{kept_owns}
 use Rattle.mc_box_c.specs.contracts.held.HeldBox.{the_row}
 use Rattle.mc_box_c.specs.contracts.kept.Kept as kept
 use Rattle.mc_box_c.specs.declared.held.HeldBox.{HeldBox}
-use Rattle.mc_box_c.proofs.LooseValues.{both}
+use Rattle.mc_plain.proofs.LooseValues.{both}
 
 abbrev pub Kept : RattleType
 Kept = kept.the_row

@@ -1,10 +1,3 @@
 pub mod Blanks
 pub mod Counts
-pub mod LooseValues
 pub mod KeptValues
-pub mod Listed
-pub mod Lists
-pub mod ProgramFits
-pub mod Says
-pub mod Stored
-pub mod Written

@@ -6,12 +6,12 @@ use Rattle.mc_box.specs.BoxEvents.{box_event, is_enabled, is_version_end}
 use Rattle.mc_box.specs.Boxes.{BoxState, slot_at}
 use Rattle.mc_box.specs.declared.event.Event.{Event}
 use Rattle.mc_box.specs.declared.event.Event.TheVariants.{Take}
-use Rattle.mc_box_c.specs.Asked.{event_of}
-use Rattle.mc_box_c.specs.Numbers.{is_signal, sent_of, Says}
-use Rattle.mc_box_c.specs.declared.answer.TheConstants.{INVALID, NO_SLOT, UNLAWFUL, DISABLED, VERSION_END, NO_ROOM}
-use Rattle.mc_box_c.specs.declared.asked.PlainEvent.{PlainEvent}
-use Rattle.mc_box_c.specs.declared.signals.PlainSent.{PlainSent}
-use Rattle.mc_box_c.specs.declared.signals.PlainSignal.{PlainSignal}
+use Rattle.mc_plain.specs.Asked.{event_of}
+use Rattle.mc_plain.specs.Numbers.{is_signal, sent_of, Says}
+use Rattle.mc_plain.specs.declared.answer.TheConstants.{INVALID, NO_SLOT, UNLAWFUL, DISABLED, VERSION_END, NO_ROOM}
+use Rattle.mc_plain.specs.declared.asked.PlainEvent.{PlainEvent}
+use Rattle.mc_plain.specs.declared.signals.PlainSent.{PlainSent}
+use Rattle.mc_plain.specs.declared.signals.PlainSignal.{PlainSignal}
 
 -- these signals are in front of the buffer, and what was after them is still there
 abbrev pub AreWritten : List (ℕ × Signal) → List PlainSent → List PlainSent → ℕ → Type 0

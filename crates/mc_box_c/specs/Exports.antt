@@ -3,7 +3,7 @@ use Rattle.std.specs.Prelude.{◌≡◌, ℕ, List, Option}
 use Rattle.mc_box.specs.Boxes.{BoxState}
 use Rattle.mc_box_c.specs.Handles.{box_of}
 use Rattle.mc_box_c.specs.declared.handle.Handle.{Handle}
-use Rattle.mc_box_c.specs.declared.signals.PlainSent.{PlainSent}
+use Rattle.mc_plain.specs.declared.signals.PlainSent.{PlainSent}
 
 -- the box of a handle, where it has one
 abbrev pub box_in : Handle → Option BoxState

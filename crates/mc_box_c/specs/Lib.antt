@@ -1,9 +1,4 @@
 pub mod Answers
-pub mod Asked
 pub mod Exports
 pub mod Handles
 pub mod Kept
-pub mod Numbers
-pub mod Programs
-pub mod Texts
-pub mod Views

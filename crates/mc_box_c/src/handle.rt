@@ -2,10 +2,10 @@
 
 ghost use Rattle.std.specs.Prelude.{◌≡◌, is_some, Some, None};
 
-use crate::answer;
 use crate::held::HeldBox;
 use crate::kept::Kept;
-use crate::signals::{PlainSent, PlainSignal};
+use mc_plain::answer;
+use mc_plain::signals::{PlainSent, PlainSignal};
 use std::alloc::Global;
 use std::marker::Send;
 use std::mem;
@@ -23,7 +23,7 @@ impl Handle {
     ghost use Rattle.std.specs.Prelude.{◌≢◌, length};
     ghost use Rattle.mc_box_c.specs.Answers.{HasTaken, WhyNotTaken};
     ghost use Rattle.mc_box_c.specs.Handles.{box_of, boxed_part, Between, OfBox};
-    ghost use Rattle.mc_box_c.specs.declared.answer.TheConstants.{OK, NO_BOX};
+    ghost use Rattle.mc_plain.specs.declared.answer.TheConstants.{OK, NO_BOX};
 
     fn none(alloc: Global) -> Handle
         ensures { result.kept.held ≡ None }

@@ -4,7 +4,7 @@ ghost use Rattle.std.specs.Prelude.{◌≡◌, Option, Some, None, IsSome};
 ghost use Rattle.mc_box_c.specs.declared.held.HeldBox.{HeldBox};
 
 use crate::held::HeldBox;
-use crate::loose::Loose;
+use mc_plain::loose::Loose;
 use std::alloc::Global;
 use std::marker::{Model, Send};
 

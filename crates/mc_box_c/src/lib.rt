@@ -3,32 +3,26 @@
 
 ghost use Rattle.std.specs.Prelude.{◌≡◌, ◌≢◌, ◌≤◌, ◌==◌, ◌||◌, [], IsTrue, is_some, length, true, false, None};
 ghost use Rattle.mc_box_c.specs.Answers.{HasActed, HasTaken, WhyNotActed, WhyNotTaken};
-ghost use Rattle.mc_box_c.specs.Asked.{is_box, SaysBox};
+ghost use Rattle.mc_plain.specs.Asked.{is_box, SaysBox};
 ghost use Rattle.mc_box_c.specs.Exports.{box_in, NothingDone};
 ghost use Rattle.mc_box_c.specs.Handles.{Between, OfBox};
-ghost use Rattle.mc_box_c.specs.Texts.{is_code, padded, text_of};
-ghost use Rattle.mc_box_c.specs.Views.{box_view, slot_view};
-ghost use Rattle.mc_box_c.specs.declared.answer.TheConstants.{OK, NO_BOX, HAS_BOX, MEMORY, INVALID, NO_SLOT};
+ghost use Rattle.mc_plain.specs.Texts.{is_code, padded, text_of};
+ghost use Rattle.mc_plain.specs.Views.{box_view, slot_view};
+ghost use Rattle.mc_plain.specs.declared.answer.TheConstants.{OK, NO_BOX, HAS_BOX, MEMORY, INVALID, NO_SLOT};
 
-mod answer;
-mod asked;
 mod handle;
 mod held;
 mod kept;
-mod loose;
-mod program;
-mod signals;
-mod text;
-mod view;
 
-use asked::{PlainEvent, PlainSetup, PlainSlot};
 use handle::Handle;
 use held::HeldBox;
-use program::PlainState;
-use signals::{PlainSent, PlainSignal};
+use mc_plain::answer;
+use mc_plain::asked::{PlainEvent, PlainSetup, PlainSlot};
+use mc_plain::program::PlainState;
+use mc_plain::signals::{PlainSent, PlainSignal};
+use mc_plain::text::PlainText;
+use mc_plain::view::{PlainBoxView, PlainSlotView};
 use std::alloc::Global;
-use text::PlainText;
-use view::{PlainBoxView, PlainSlotView};
 
 /// The version of the interface. It changes with each change that C would see.
 pub const VERSION: u32 = 2;

@@ -1,6 +1,6 @@
 use Rattle.std.proofs.Common.{◌≡◌, ◌<◌, ◌∷◌, length, drop, arith, sym, ◌∙◌}
-use Rattle.mc_box_c.specs.Numbers.{sent_of}
-use Rattle.mc_box_c.proofs.Written.{written_next, drop_next, drop_none}
+use Rattle.mc_plain.specs.Numbers.{sent_of}
+use Rattle.mc_plain.proofs.Written.{written_next, drop_next, drop_none}
 use Rattle.mc_box_c.proofs.held.empty_into.Goals as goal
 use Rattle.mc_box_c.proofs.held.empty_into.Goals.{in-Some, in_default}
 

@@ -1,9 +1,9 @@
 use Rattle.std.specs.Prelude.{replicate}
 use Rattle.std.proofs.Common.{ℕ, ◌≡◌, ◌+◌, ◌≤◌, ap, ◌<◌, ◌∷◌, ◌∙◌, ◌-◌, arith, length, drop, refl, rules, sym}
 use Rattle.std.proofs.lemmas.List.{length-set}
-use Rattle.mc_box_c.specs.Numbers.{sent_of}
+use Rattle.mc_plain.specs.Numbers.{sent_of}
 use Rattle.mc_box_c.proofs.Blanks.{nothing, blank}
-use Rattle.mc_box_c.proofs.Written.{all_blank, drop_after, drop_read, long, same_length, written_next}
+use Rattle.mc_plain.proofs.Written.{all_blank, drop_after, drop_read, long, same_length, written_next}
 use Rattle.mc_box_c.proofs.held.empty_list_into.Goals as goal
 
 pub loop-i-init : goal.loop-i-init

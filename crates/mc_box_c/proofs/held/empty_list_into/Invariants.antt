@@ -1,5 +1,5 @@
 use Rattle.std.proofs.Common.{◌-◌, ◌≡◌, ◌≤◌, ◌++◌, length, map, take, drop}
-use Rattle.mc_box_c.specs.Numbers.{sent_of}
+use Rattle.mc_plain.specs.Numbers.{sent_of}
 use Rattle.mc_box_c.proofs.Blanks.{blank}
 use Rattle.mc_box_c.proofs.held.empty_list_into.Given as goal
 

@@ -1,5 +1,5 @@
 use Rattle.std.proofs.Common.{◌∙◌}
-use Rattle.mc_box_c.proofs.Says.{says_box}
+use Rattle.mc_plain.proofs.Says.{says_box}
 use Rattle.mc_box_c.proofs.held.HeldBox.new.Goals as goal
 
 pub returns : goal.returns

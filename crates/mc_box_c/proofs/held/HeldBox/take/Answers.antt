@@ -3,7 +3,7 @@ use Rattle.std.specs.Prelude.{List}
 use Rattle.mc_slot.specs.declared.Slot.{Slot}
 use Rattle.mc_box_c.specs.Answers.WhyNotTaken.{invalid, no_slot, unlawful, no_room}
 use Rattle.mc_box_c.proofs.Counts.{took_as_many}
-use Rattle.mc_box_c.proofs.Says.{is_none}
+use Rattle.mc_plain.proofs.Says.{is_none}
 use Rattle.mc_box_c.proofs.held.HeldBox.take.Goals as goal
 
 pub returns-then-slots-slot-clause-why_not : goal.returns-then-slots-slot-clause-why_not

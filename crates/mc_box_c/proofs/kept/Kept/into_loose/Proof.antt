@@ -25,7 +25,7 @@ use Rattle.std.specs.contracts.impls.GlobalAllocator.TheImpl.{ghosts}
 use Rattle.std.specs.Box.Ownership.{box_owns}
 use Rattle.std.proofs.raw_atomic.Walks.{proved_at, leaves}
 use Rattle.mc_box_c.specs.contracts.held.HeldBox as held
-use Rattle.mc_box_c.proofs.LooseValues.{both, loose_good, loose_in}
+use Rattle.mc_plain.proofs.LooseValues.{both, loose_good, loose_in}
 use Rattle.mc_box_c.proofs.KeptValues.{Heap, Kept, kept_out, kept_is}
 use Rattle.mc_box_c.specs.contracts.kept.Kept.into_loose.{ended, clauses}
 use Rattle.mc_box_c.specs.contracts.kept.Kept.into_loose.Key.{name as #self}

@@ -21,7 +21,7 @@ use Rattle.std.proofs.alloc.Calls.{handle_tells}
 use Rattle.std.proofs.raw_atomic.Walks.{proved_at, leaves}
 use Rattle.std.proofs.ResultValues.{and_tt}
 use Rattle.mc_box_c.specs.declared.held.HeldBox.{HeldBox}
-use Rattle.mc_box_c.proofs.LooseValues.{both}
+use Rattle.mc_plain.proofs.LooseValues.{both}
 use Rattle.mc_box_c.proofs.KeptValues.{Heap, al, kept_in}
 use Rattle.mc_box_c.specs.contracts.kept.Kept.none.{ended, clauses}
 use Rattle.mc_box_c.specs.contracts.kept.Kept.none.Key.{name as #self}

@@ -21,7 +21,7 @@ use Rattle.std.proofs.alloc.Global.TheLaws as heap_laws
 use Rattle.std.specs.contracts.impls.GlobalAllocator.TheImpl.{ghosts}
 use Rattle.std.proofs.raw_atomic.Walks.{proved_at, leaves}
 use Rattle.mc_box_c.specs.contracts.held.HeldBox as held
-use Rattle.mc_box_c.proofs.LooseValues.{both, Loose, loose_good, loose_out}
+use Rattle.mc_plain.proofs.LooseValues.{both, Loose, loose_good, loose_out}
 use Rattle.mc_box_c.proofs.KeptValues.{Heap, kept_in}
 use Rattle.mc_box_c.specs.contracts.kept.Kept.of_loose.{ended, clauses}
 use Rattle.mc_box_c.specs.contracts.kept.Kept.of_loose.Key.{name as #self}

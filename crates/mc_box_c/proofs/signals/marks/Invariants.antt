@@ -1,5 +1,0 @@
-use Rattle.mc_box_c.proofs.Stored.{Compared}
-use Rattle.mc_box_c.proofs.signals.marks.Given as goal
-
-abbrev pub invariant-loop-i : goal.invariant-loop-i
-invariant-loop-i l = Compared l.codecs l.i l.marks

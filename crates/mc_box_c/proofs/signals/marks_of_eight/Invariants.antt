@@ -1,6 +1,0 @@
-use Rattle.std.proofs.Common.{◌*◌}
-use Rattle.mc_box_c.proofs.Stored.{Compared}
-use Rattle.mc_box_c.proofs.signals.marks_of_eight.Given as goal
-
-abbrev pub invariant-loop-i : goal.invariant-loop-i
-invariant-loop-i l = Compared l.codecs (2 * l.i) l.marks
