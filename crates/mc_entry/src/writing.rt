@@ -179,12 +179,17 @@ fn put_all(out: &mut Vec<u8>, sent: &Lane<AtEnd>) -> Result<(), AllocError>
     Ok(())
 }
 
+// The most bytes of an entry that took and sent nothing, and those of a signal.
+const BARE_SIZE: usize = 32;
+const SIGNAL_SIZE: usize = 54;
+
 /// Appends an entry's bytes: 20, 12 for a request, 54 for what was taken, and 54 for each signal that was sent. After an
 /// error the buffer has a part of them.
 pub fn write_entry(entry: &Entry, out: &mut Vec<u8>) -> Result<(), AllocError>
     requires { length entry.now.sent < 2 ^ 16 }
     ensures { OnOk result (Writes out.old.items out.new.items (entry_wire entry.now)) }
 {
+    out.reserve(BARE_SIZE + SIGNAL_SIZE * (entry.sent.len() + 1))?;
     put(out, &[FORM_VERSION])?;
     put4(out, entry.who)?;
     put8(out, entry.stamp)?;
