@@ -1,4 +1,5 @@
 pub mod KeptValues
 pub mod Laid
 pub mod Replayed
+pub mod Sizes
 pub mod Written

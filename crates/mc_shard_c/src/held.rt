@@ -22,7 +22,7 @@ pub struct HeldShard {
 }
 
 impl HeldShard {
-    ghost use Rattle.std.specs.Prelude.{◌≡◌, ◌≢◌, MatchBool, None};
+    ghost use Rattle.std.specs.Prelude.{◌≡◌, ◌≢◌, ◌<◌, MatchBool, None};
     ghost use Rattle.mc_plain.specs.Views.{box_view, slot_view};
     ghost use Rattle.mc_shard.specs.States.{box_in};
     ghost use Rattle.mc_shard_writer.specs.Writers.{Waits};
@@ -30,7 +30,8 @@ impl HeldShard {
     ghost use Rattle.mc_shard_c.specs.Seeing.{IsSeen, WhyNoBox, WhyNoSlot};
     ghost use Rattle.mc_shard_c.specs.Turns.{HasArrived, HasRequested, HasStood, HasWritten, WhyNotArrived, WhyNotRequested, WhyNotStood, WhyNotWritten};
     ghost use Rattle.mc_shard_c.specs.Waiting.{WhyNoStamp};
-    ghost use Rattle.mc_shard_c.specs.declared.answer.TheConstants.{OK};
+    ghost use Rattle.mc_shard_c.specs.declared.answer.TheConstants.{OK, NO_ROOM};
+    ghost use Rattle.mc_shard_c.specs.declared.writing.TheConstants.{ENTRY_ROOM};
 
     /// Whether no entry waits.
     pub fn is_free(&self) -> bool
@@ -161,6 +162,7 @@ impl HeldShard {
         ensures ok { result ≡ OK → HasWritten (writer_of self.now) bytes.old bytes.new count.new }
         ensures unchanged { result ≢ OK → (bytes.new ≡ bytes.old) × (count.new ≡ 0) }
         ensures why_not { result ≢ OK → WhyNotWritten (writer_of self.now) (length bytes.old) result }
+        ensures enough { result ≡ NO_ROOM → length bytes.old < ENTRY_ROOM }
     {
         match &self.made {
             Some(entry) => write_into(alloc, entry, bytes, count),
@@ -177,6 +179,7 @@ impl HeldShard {
         ensures unchanged { result ≢ OK
             → (writer_of self.new ≡ writer_of self.old) × (out.new ≡ out.old) × (count.new ≡ 0) }
         ensures why_not { result ≢ OK → WhyNotStood (writer_of self.old) (length out.old) result }
+        ensures enough { result ≡ NO_ROOM → length out.old < SENT_LIMIT }
     {
         *count = 0;
         match &self.made {

@@ -1,10 +1,11 @@
 //! A shard of boxes for programs in C: `include/media_shard.h` declares what is exported here, in the words of C.
 #![tactic(auto)]
 
-ghost use Rattle.std.specs.Prelude.{◌≡◌, ◌≢◌, ◌==◌, ◌||◌, IsTrue, true, false, is_some, None, length};
+ghost use Rattle.std.specs.Prelude.{◌≡◌, ◌≢◌, ◌<◌, ◌==◌, ◌||◌, IsTrue, true, false, is_some, None, length};
 ghost use Rattle.mc_plain.specs.Texts.{padded};
 ghost use Rattle.mc_plain.specs.Views.{box_view, slot_view};
 ghost use Rattle.mc_shard.specs.States.{box_in};
+ghost use Rattle.mc_shard.specs.declared.limit.TheConstants.{SENT_LIMIT};
 ghost use Rattle.mc_shard_writer.specs.Writers.{Waits};
 ghost use Rattle.mc_shard_c.specs.Entries.{HasRead, HasReplayed, StaysOrGone, WhyNotRead};
 ghost use Rattle.mc_shard_c.specs.Exports.{writer_in};
@@ -13,7 +14,8 @@ ghost use Rattle.mc_shard_c.specs.Laying.{SaysNoShard, SaysWriter};
 ghost use Rattle.mc_shard_c.specs.Seeing.{IsSeen, WhyNoBox, WhyNoSlot};
 ghost use Rattle.mc_shard_c.specs.Texts.{is_code, text_of};
 ghost use Rattle.mc_shard_c.specs.Turns.{HasArrived, HasRequested, HasStood, HasWritten, WhyNotArrived, WhyNotRequested, WhyNotStood, WhyNotWritten};
-ghost use Rattle.mc_shard_c.specs.declared.answer.TheConstants.{OK, MEMORY, INVALID, NO_SHARD, HAS_SHARD, WAITS};
+ghost use Rattle.mc_shard_c.specs.declared.answer.TheConstants.{OK, MEMORY, INVALID, NO_ROOM, NO_SHARD, HAS_SHARD, WAITS};
+ghost use Rattle.mc_shard_c.specs.declared.writing.TheConstants.{ENTRY_ROOM};
 
 mod answer;
 mod at_end;
@@ -267,6 +269,7 @@ pub extern "C" fn media_shard_write(
     ensures no_shard { result ≡ NO_SHARD → writer_in handle.old ≡ None }
     ensures why_not { result ≢ OK → result ≢ NO_SHARD → Of (writer_in handle.old)
         (λ old. WhyNotWritten old (length bytes.old) result) }
+    ensures enough { result ≡ NO_ROOM → length bytes.old < ENTRY_ROOM }
 {
     match handle.open(alloc) {
         Some(held) => {
@@ -296,6 +299,7 @@ pub extern "C" fn media_shard_stands(
     ensures no_shard { result ≡ NO_SHARD → writer_in handle.old ≡ None }
     ensures why_not { result ≢ OK → result ≢ NO_SHARD → Of (writer_in handle.old)
         (λ old. WhyNotStood old (length out.old) result) }
+    ensures enough { result ≡ NO_ROOM → length out.old < SENT_LIMIT }
 {
     match handle.open(alloc) {
         Some(mut held) => {

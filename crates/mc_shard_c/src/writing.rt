@@ -5,7 +5,8 @@ ghost use Rattle.mc_shard.specs.declared.limit.TheConstants.{SENT_LIMIT};
 ghost use Rattle.mc_entry.specs.Wire.{entry_wire};
 ghost use Rattle.mc_shard_c.specs.Asking.{plain_at};
 ghost use Rattle.mc_shard_c.specs.Turns.{AreInFront, WhyNotPut};
-ghost use Rattle.mc_shard_c.specs.declared.answer.TheConstants.{OK};
+ghost use Rattle.mc_shard_c.specs.declared.answer.TheConstants.{OK, NO_ROOM};
+ghost use Rattle.mc_shard_c.specs.declared.writing.TheConstants.{ENTRY_ROOM};
 
 use crate::answer;
 use crate::at_end::PlainAtEnd;
@@ -13,6 +14,9 @@ use mc_entry::write_entry;
 use mc_lane::Lane;
 use mc_shard::{AtEnd, Entry};
 use std::alloc::Global;
+
+/// The most bytes that an entry of a shard takes.
+pub const ENTRY_ROOM: usize = 6998;
 
 // These bytes come in front of the others.
 fn put_in_front(form: &[u8], bytes: &mut [u8])
@@ -28,6 +32,7 @@ pub fn write_into(alloc: Global, entry: &Entry, bytes: &mut [u8], count: &mut us
     ensures ok { result ≡ OK → AreInFront (entry_wire entry.now []) bytes.old bytes.new count.new }
     ensures unchanged { result ≢ OK → (bytes.new ≡ bytes.old) × (count.new ≡ 0) }
     ensures why_not { result ≢ OK → WhyNotPut (length (entry_wire entry.now [])) (length bytes.old) result }
+    ensures enough { result ≡ NO_ROOM → length bytes.old < ENTRY_ROOM }
 {
     *count = 0;
     let mut form = Vec::new(alloc);
