@@ -2,4 +2,5 @@ pub mod KeptValues
 pub mod Laid
 pub mod Replayed
 pub mod Sizes
+pub mod Told
 pub mod Written

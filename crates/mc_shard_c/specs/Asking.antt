@@ -51,3 +51,7 @@ no_plain_at = record {
   tunnel = 0;
   signal = record { kind = 0; medium = 0; codecs = no_list; port = 0; origin = 0; version = 0; addr = 0 };
 }
+
+-- the numbers of a signal say that signal alone
+abbrev pub ToldAgain : Type 0
+ToldAgain = (given taken : AtEnd) → SaysAt (plain_at given) taken → taken ≡ given

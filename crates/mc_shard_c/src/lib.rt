@@ -24,6 +24,7 @@ mod entry;
 mod handle;
 mod held;
 mod kept;
+pub mod laws;
 mod laying;
 mod replaying;
 mod writing;
