@@ -1,5 +1,8 @@
 -- The numbers of a signal say that signal alone.
-use Rattle.std.proofs.Common.{◌≡◌, ℕ, Option, Some, None, refl, ap, sym, ◌∙◌, arith}
+use Rattle.std.proofs.Common.{◌≡◌, ℕ, true, Option, Some, None, refl, ap, ◌∙◌, arith}
+use Rattle.std.specs.Prelude.{nat_le, nat_lt}
+use Rattle.std.proofs.lemmas.Bool.{le-leb}
+use Rattle.mc_plain.proofs.Listed.{fine_list}
 use Rattle.mc_signal.proofs.Equal.{codecs_tell_list}
 use Rattle.mc_signal.specs.declared.codec_list.CodecList.{CodecList}
 use Rattle.mc_signal.specs.declared.Descriptor.{Descriptor}
@@ -8,11 +11,9 @@ use Rattle.mc_signal.specs.declared.Medium.TheVariants.{Audio, Video}
 use Rattle.mc_signal.specs.declared.Selector.{Selector}
 use Rattle.mc_signal.specs.declared.Signal.{Signal}
 use Rattle.mc_signal.specs.declared.Signal.TheVariants.{Open, Oack, Close, Closeack, Describe, Select}
-use Rattle.mc_plain.specs.Numbers.{Says, SaysDescriptor, SaysSelector, medium_number, medium_of, named, plain_codec, plain_descriptor, plain_of, plain_selector}
+use Rattle.mc_plain.specs.Numbers.{Says, SaysDescriptor, SaysSelector, is_list, is_signal, medium_number, medium_of, named, plain_codec, plain_descriptor, plain_list, plain_of, plain_selector}
 use Rattle.std.specs.List.{slice_get}
-use Rattle.mc_shard.specs.declared.entry.AtEnd.{AtEnd}
-use Rattle.mc_shard.specs.declared.entry.Numbered.{Numbered}
-use Rattle.mc_shard_c.specs.Asking.{SaysAt, ToldAgain, plain_at}
+use Rattle.mc_shard_c.specs.Asking.{IsToldAgain, ToldAgain}
 
 medium_told : (m : Medium) → medium_of (medium_number m) ≡ m
 medium_told Audio = refl
@@ -81,3 +82,27 @@ told_again given taken says =
     let fields : (taken.end, taken.item.number, taken.item.stamp, taken.item.digest, taken.item.tunnel, taken.item.signal)
     ≡ (given.end, given.item.number, given.item.stamp, given.item.digest, given.item.tunnel, given.item.signal) = cc in
     ap (λ (t : ℕ × ℕ × ℕ × ℕ × ℕ × Signal). record { end = t.0; item = record { number = t.1; stamp = t.2; digest = t.3; tunnel = t.4; signal = t.5 } }) fields
+
+-- ---- and they say a signal
+
+listed_again : (list : CodecList) → is_list (plain_list list) ≡ true
+listed_again list = rw (le-leb list.len 8 list.short) (fine_list list.len list.at list.short list.places list.known list.distinct)
+
+medium_again : (m : Medium) → nat_lt (medium_number m) 2 ≡ true
+medium_again Audio = refl
+medium_again Video = refl
+
+signal_again : (signal : Signal) → is_signal (plain_of signal) ≡ true
+signal_again (Open m d) = rw (medium_again m) (listed_again d.codecs)
+signal_again (Oack d) = listed_again d.codecs
+signal_again Close = refl
+signal_again Closeack = refl
+signal_again (Describe d) = listed_again d.codecs
+signal_again (Select s) = codec_again s.codec
+  where
+    codec_again : (codec : Option ℕ) → nat_le (plain_codec codec).count 1 ≡ true
+    codec_again None = refl
+    codec_again (Some codec) = refl
+
+pub is_told_again : IsToldAgain
+is_told_again given = signal_again given.item.signal

@@ -1,6 +1,6 @@
 -- What the numbers of a request and of a signal at a channel end say, and the numbers that C is handed.
-use Rattle.std.specs.Prelude.{◌≡◌, ◌==◌, Bool, if◌then◌else◌, nat_lt, Option, Some, None}
-use Rattle.mc_plain.specs.Numbers.{Says, no_list, plain_of}
+use Rattle.std.specs.Prelude.{◌≡◌, ◌==◌, Bool, true, if◌then◌else◌, nat_lt, Option, Some, None}
+use Rattle.mc_plain.specs.Numbers.{Says, is_signal, no_list, plain_of}
 use Rattle.mc_shard.specs.declared.entry.Asked.{Asked}
 use Rattle.mc_shard.specs.declared.entry.AtEnd.{AtEnd}
 use Rattle.mc_shard_c.specs.declared.at_end.PlainAsked.{PlainAsked}
@@ -55,3 +55,7 @@ no_plain_at = record {
 -- the numbers of a signal say that signal alone
 abbrev pub ToldAgain : Type 0
 ToldAgain = (given taken : AtEnd) → SaysAt (plain_at given) taken → taken ≡ given
+
+-- and they say one
+abbrev pub IsToldAgain : Type 0
+IsToldAgain = (given : AtEnd) → is_signal (plain_at given).signal ≡ true
