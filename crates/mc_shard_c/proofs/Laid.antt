@@ -86,7 +86,7 @@ owned_length : (who : ℕ) (places : List (ℕ × ℕ)) (owners : List ℕ) → 
 owned_length who [] owners = refl
 owned_length who (place ∷ places) owners = owned_length who places (slice_set owners place.0 who) ∙ length-set owners place.0 who
 
-from_length : (who : ℕ) (places : Places) (owners : List ℕ) → length (owned_from who places owners) ≡ length owners
+pub from_length : (who : ℕ) (places : Places) (owners : List ℕ) → length (owned_from who places owners) ≡ length owners
 from_length who [] owners = refl
 from_length who (mine ∷ rest) owners = from_length (who + 1) rest (owned_by who mine owners) ∙ owned_length who mine owners
 

@@ -1,5 +1,6 @@
 pub mod KeptValues
 pub mod Laid
+pub mod Owners
 pub mod Replayed
 pub mod Sizes
 pub mod Told

@@ -103,3 +103,8 @@ pub record StillLays (plains : List PlainShardBox) (slots : List PlainShardSlot)
   pub none : CannotBe rest rest_slots rest_states → CannotBe plains slots states
   pub places_are : places ++ places_in rest rest_slots ≡ places_in plains slots
   pub owners_are : owned_from who (places_in rest rest_slots) owners ≡ owners_in plains slots ends
+
+-- where any boxes of channel ends make a shard, those that are found do
+abbrev pub OwnersFit : Type 0
+OwnersFit = (boxes : List BoxState) (places : Places) (owners : List ℕ) → AreLaid boxes places owners
+    → AreLaid boxes places (owned_from 0 places (replicate (length owners) 0))
