@@ -13,15 +13,15 @@
  *   media_shard_stands                          the entry stands: what it sent may be carried, and be seen
  * Where the writing failed, or nothing is known of it, end the shard, make it again, and replay its journal.
  *
- * A shard that is made again as it was made first, and into which each entry of its journal was replayed in order, is as
- * it was. What was sent at an end is what the entries of the journal say, so all that wasn't carried can be read there.
+ * A shard that is made again as it was made first, and into which each entry of its journal was replayed in order, is
+ * as it was. What was sent at an end is what the entries of the journal say, so all that wasn't carried can be read there.
  *
  * To link: libmc_shard_c.a, and what media_box.h says of malloc. Of media_box.h it has the types and numbers alone, and
  * none of its calls.
  *
  * What the caller owes is what media_box.h says, of a media_shard as of a media_box. Each number may be anything. All
- * calls but media_shard_version answer a code. After each code but MEDIA_OK all is as it was, but that a count, a size or
- * a `made` is 0 then, and but for media_shard_replay, which says so. No call waits, reads a clock, prints or ends the
+ * calls but media_shard_version answer a code. After each code but MEDIA_OK all is as it was, but that a count, a size
+ * or a `made` is 0 then, and but for media_shard_replay, which says so. No call waits, reads a clock, prints or ends the
  * program. */
 #ifndef MEDIA_SHARD_H
 #define MEDIA_SHARD_H
@@ -87,8 +87,8 @@ typedef struct media_asked {
 } media_asked;
 
 /* A signal at a channel end: how many were sent there up to it, itself counted; the stamp of the turn that sent it; a
- * digest of all of them; and its tunnel. What is sent at one end arrives at the far one with its number there for `end`,
- * and all else as it is. */
+ * digest of all of them; and its tunnel. What is sent at one end arrives at the far one with its number there for
+ * `end`, and all else as it is. */
 typedef struct media_at_end {
     uint64_t number;
     uint64_t stamp;
@@ -132,8 +132,8 @@ uint32_t media_shard_version(void);
 uint32_t media_shard_text(uint32_t code, media_text *out);
 
 /* Makes a shard of these boxes, whose numbers are 0, 1 and so on. `slots` and `states` are those of all boxes, one box
- * after another; each box is as media_box_make_programmed has it. The ends have the numbers below `end_count`, each slot
- * is at one of them, and the slots at one end are of one box. Nothing was sent, taken or asked yet.
+ * after another; each box is as media_box_make_programmed has it. The ends have the numbers below `end_count`, each
+ * slot is at one of them, and the slots at one end are of one box. Nothing was sent, taken or asked yet.
  * MEDIA_OK, MEDIA_HAS_SHARD, MEDIA_MEMORY, or MEDIA_INVALID where the numbers make no shard. */
 uint32_t media_shard_make(media_shard *shard, const media_shard_box *boxes, size_t box_count,
                           const media_shard_slot *slots, size_t slot_count, const media_state *states,
@@ -165,8 +165,8 @@ uint32_t media_shard_arrive(media_shard *shard, const media_at_end *at, uint8_t 
  * MEDIA_OK, MEDIA_NO_SHARD, MEDIA_NONE_WAITS, MEDIA_NO_ROOM or MEDIA_MEMORY. */
 uint32_t media_shard_write(media_shard *shard, uint8_t *bytes, size_t room, size_t *count);
 
-/* The entry that waited stands in the journal. What it sent comes into the first `*count` of the `room` places of `out`,
- * in order; the others stay. MEDIA_SENT_ROOM are always enough. Another turn may be made then.
+/* The entry that waited stands in the journal. What it sent comes into the first `*count` of the `room` places of
+ * `out`, in order; the others stay. MEDIA_SENT_ROOM are always enough. Another turn may be made then.
  * MEDIA_OK, MEDIA_NO_SHARD, MEDIA_NONE_WAITS or MEDIA_NO_ROOM. */
 uint32_t media_shard_stands(media_shard *shard, media_at_end *out, size_t room, size_t *count);
 

@@ -1,10 +1,8 @@
 -- Where any boxes of channel ends make a shard, those that are found do.
-use Rattle.std.proofs.Common.{◌≡◌, ◌<◌, ℕ, ◌+◌, zero, suc, List, [], ◌∷◌, length, slice_set, slice_get, slice_index_or, Some, refl, ap, sym, subst, ◌∙◌, arith}
+use Rattle.std.proofs.Common.{◌≡◌, ◌<◌, ℕ, ◌+◌, zero, suc, List, [], ◌∷◌, length, slice_set, slice_get, slice_index_or, Some, refl, sym, subst, ◌∙◌, arith}
 use Rattle.std.specs.Prelude.{replicate}
 use Rattle.std.proofs.lemmas.Grind.{common_steps}
 use Rattle.std.proofs.lemmas.List.{length-set}
-use Rattle.mc_box.specs.Boxes.{BoxState}
-use Rattle.mc_shard.specs.Shards.{AreLaid}
 use Rattle.mc_shard.specs.States.{Places, places_of}
 use Rattle.mc_shard_c.specs.Laying.{OwnersFit, owned_by, owned_from}
 use Rattle.mc_shard_c.proofs.Laid.{from_length}

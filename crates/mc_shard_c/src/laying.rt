@@ -67,7 +67,8 @@ impl Laying {
         slots: &[PlainShardSlot],
         states: &[PlainState],
     ) -> Result<(), NotLaid>
-        ensures boxes { OnOk result (HasAdded self.old.boxes.items self.new.boxes.items plain.now slots.now states.now) }
+        ensures boxes { OnOk result
+            (HasAdded self.old.boxes.items self.new.boxes.items plain.now slots.now states.now) }
         ensures places { OnOk result (self.new.places.items ≡ self.old.places.items ++ map place_in slots.now ∷ []) }
         ensures owners { OnOk result (self.new.owners.items
             ≡ owned_by who (map place_in slots.now) self.old.owners.items) }

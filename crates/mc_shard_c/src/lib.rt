@@ -226,8 +226,8 @@ pub extern "C" fn media_shard_request(
     }
 }
 
-/// Makes the turn that takes the signal that the numbers say. Its entry waits, where `made` is 1 then. Where it is 0 the
-/// signal had been taken already.
+/// Makes the turn that takes the signal that the numbers say. Its entry waits, where `made` is 1 then. Where it is 0
+/// the signal had been taken already.
 #[unsafe(no_mangle)]
 pub extern "C" fn media_shard_arrive(
     alloc: Global,
