@@ -33,6 +33,8 @@ enum {
     MESSAGE_MOST = 256,
     APPEND_MOST = 16,
     LOSS_MOST = 64,
+    SIGNAL_SIZE = 54, /* bytes of a signal in an entry, of which the first are the number of its end */
+    END_SIZE = 4,
     NONE = -1
 };
 
@@ -59,12 +61,12 @@ static bool happens(int one_of) { return one_of > 0 && among(one_of) == 0; }
 enum count {
     SHARDS, BOXES, SETTLES, TURNS, SIGNALS, CROSSING, CRASHES, LATE_WRITES, SECOND_OWNERS, CLAIMS, FENCED, REPLAYED,
     APPENDS, REFUSED, UNANSWERED, LOST_APPENDS, DOUBLED_APPENDS, LOST_SIGNALS, DOUBLED_SIGNALS, READ_AGAIN, DAMAGED,
-    HAD, EARLY, RESENT, RETRIES, MEMORY, PROBES, BREAKS, HARMED, COUNTS
+    HAD, EARLY, RESENT, RETRIES, MEMORY, PROBES, SPOILT, BREAKS, HARMED, COUNTS
 };
 static const char *const count_names[COUNTS] = {
     "shards", "boxes", "settles", "turns", "signals", "crossing", "crashes", "late", "second", "claims", "fenced",
     "replayed", "appends", "refused", "unanswered", "lost", "doubled", "undelivered", "twice", "reread", "damaged",
-    "had", "early", "resent", "retries", "memory", "probes", "breaks", "harmed"};
+    "had", "early", "resent", "retries", "memory", "probes", "spoilt", "breaks", "harmed"};
 static unsigned long counts[COUNTS];
 static char fault[400]; /* the first thing that was wrong, or nothing */
 
@@ -885,7 +887,8 @@ static void step_signal(int shard, struct process *it, const struct message *mes
         if (!message->is_damaged && among(2) == 0) push_message(shard, message);
     } else if (code == MEDIA_UNLAWFUL && is_behind(shard, it)) {
         counts[FENCED]++;
-        end_process(shard, it);
+        if (among(4) == 0) end_process(shard, it);
+        else it->phase = REPLAYING;
     } else if (!lacks_memory(code) && (!message->is_damaged || (code != MEDIA_DIGEST && code != MEDIA_INVALID)))
         note("a signal to shard %d: %s", shard, code_text(code));
 }
@@ -942,6 +945,19 @@ static void probe_waiting(int shard, struct process *it) {
         note("a call of shard %d doesn't wait", shard);
 }
 
+/* A retry that isn't owed changes nothing. */
+static void probe_retry(int shard, struct process *it) {
+    const media_asked nobody = {0, 0, 0};
+    static media_slot_view view;
+    uint32_t number = (uint32_t)among(net.homes[shard].box_count);
+    const struct box *box = &net.boxes[net.homes[shard].boxes[number]];
+    media_event event = {MEDIA_RETRY, (uint8_t)among(box->count), 0};
+    uint8_t made;
+    if (!went(media_shard_see_slot(&it->shard, number, event.first, &view), "a slot", shard) || view.owes) return;
+    if (media_shard_request(&it->shard, &nobody, number, &event, known, &made) != MEDIA_DISABLED)
+        note("a retry that isn't owed is made by shard %d", shard);
+}
+
 /* Calls that have to be refused change nothing. */
 static void probe_free(int shard, struct process *it) {
     const struct home *home = &net.homes[shard];
@@ -960,6 +976,7 @@ static void probe_free(int shard, struct process *it) {
         || media_shard_arrive(&it->shard, &far_off, &made) != MEDIA_NO_END
         || media_shard_write(&it->shard, it->bytes, MEDIA_ENTRY_ROOM, &count) != MEDIA_NONE_WAITS)
         note("a call of shard %d isn't refused as it should be", shard);
+    probe_retry(shard, it);
 }
 
 static void step_made(int shard, struct process *it) {
@@ -1010,9 +1027,28 @@ static void step_under_way(int shard, struct process *it) {
     } else if (--it->patience == 0) settle_append(shard, it);
 }
 
+static bool same_codecs(const media_codecs *one, const media_codecs *other) {
+    return one->count == other->count && memcmp(one->at, other->at, sizeof one->at) == 0;
+}
+
+static bool same_at_end(const media_at_end *one, const media_at_end *other) {
+    const media_signal *a = &one->signal, *b = &other->signal;
+    return one->number == other->number && one->stamp == other->stamp && one->digest == other->digest
+        && one->end == other->end && one->tunnel == other->tunnel && a->kind == b->kind && a->medium == b->medium
+        && same_codecs(&a->codecs, &b->codecs) && a->port == b->port && a->origin == b->origin
+        && a->version == b->version && a->addr == b->addr;
+}
+
+/* What is to be carried is what the entry says. */
+static void compare_sent(int shard, const struct place *in, const media_at_end *sent, size_t count) {
+    bool is_same = count == in->sent_count;
+    for (size_t i = 0; is_same && i < count; i++) is_same = same_at_end(&sent[i], &in->sent[i]);
+    if (!is_same) note("shard %d sends something else than its entry says", shard);
+}
+
 static void step_stands(int shard, struct process *it) {
     static media_at_end sent[MEDIA_SENT_ROOM];
-    size_t count = 0;
+    size_t count = 0, place = it->place;
     it->place++;
     it->phase = FREE;
     if (it->is_mark) {
@@ -1020,6 +1056,7 @@ static void step_stands(int shard, struct process *it) {
         return;
     }
     if (!went(media_shard_stands(&it->shard, sent, MEDIA_SENT_ROOM, &count), "the standing", shard)) return;
+    if (engine == SOUND) compare_sent(shard, &journals[shard].at[place], sent, count);
     for (size_t i = 0; i < count; i++) carry(shard, &sent[i]);
 }
 
@@ -1147,10 +1184,39 @@ static bool see_shard(int shard) {
     return is_seen && fault[0] == 0;
 }
 
+/* An entry with another bit among what it sent is none, which changes nothing, or it differs, which ends the shard. A
+ * part of an entry is none. */
+static void spoil_entry(int shard, media_shard *again, const struct place *it) {
+    static uint8_t bytes[MEDIA_ENTRY_ROOM];
+    size_t size, part = SIGNAL_SIZE * it->sent_count;
+    memcpy(bytes, it->bytes, it->size);
+    bytes[it->size - 1 - (size_t)among((int)part)] ^= (uint8_t)(1 << among(8));
+    if (media_shard_replay(again, it->bytes, (size_t)among((int)it->size), &size) != MEDIA_NO_ENTRY || size != 0)
+        note("shard %d replays a part of an entry", shard);
+    uint32_t code = media_shard_replay(again, bytes, it->size, &size);
+    if (code != MEDIA_NO_ENTRY && (code != MEDIA_DIFFERS || again->made))
+        note("replay of a spoilt entry of shard %d: %s", shard, code_text(code));
+    if (code == MEDIA_NO_ENTRY) went(media_shard_replay(again, it->bytes, it->size, &size), "replay", shard);
+    counts[SPOILT]++;
+}
+
+static void try_spoilt(int shard) {
+    const struct journal *in = &journals[shard];
+    media_shard again = MEDIA_SHARD_NONE;
+    size_t place = in->count > 0 ? (size_t)among((int)in->count) : 0;
+    while (place < in->count && in->at[place].sent_count == 0) place++;
+    if (place == in->count || !make_shard(shard, &again)) return;
+    bool is_made = true;
+    for (size_t i = 0; is_made && i < place; i++) is_made = replay_place(shard, &again, i);
+    if (is_made) spoil_entry(shard, &again, &in->at[place]);
+    if (again.made) went(media_shard_end(&again), "the end", shard);
+}
+
 static bool see_all(void) {
     for (int i = 0; i < net.shard_count; i++)
         if (!see_shard(i)) return false;
-    return true;
+    try_spoilt(among(net.shard_count));
+    return fault[0] == 0;
 }
 
 /* ---- a settle */
@@ -1225,8 +1291,6 @@ static void print_settle(FILE *to, int number) {
 }
 
 /* ---- what the journals say together */
-
-enum { SIGNAL_SIZE = 54, END_SIZE = 4 };
 
 /* The bytes of the signals that a place sent, and of that which it took, without the numbers of their ends. */
 static const uint8_t *sent_bytes(const struct place *it, size_t number) {
