@@ -102,7 +102,7 @@ struct slot {
     uint8_t local, tunnel; /* its number in its box, and that of its tunnel in its channel */
     media_slot made;
 };
-struct home {
+struct shard {
     int box_count, boxes[BOX_MOST];
     int end_count, ends[END_MOST]; /* channel ends, by their numbers in the shard */
     int askers;
@@ -113,7 +113,7 @@ static struct network {
     struct slot slots[SLOT_MOST]; /* tunnel t has the slots 2t, which is the initiator's, and 2t + 1 */
     int end_boxes[END_MOST];      /* channel k has the ends 2k, which is the initiator's, and 2k + 1 */
     int end_numbers[END_MOST];    /* of each end in its shard */
-    struct home homes[SHARD_MOST];
+    struct shard shards[SHARD_MOST];
 } net;
 
 static bool is_feature(int box) { return net.boxes[box].setup.kind == MEDIA_FEATURE; }
@@ -188,6 +188,11 @@ static int pick_feature(void) {
     return found;
 }
 
+static void add_phone(int feature) {
+    int phone = add_box(MEDIA_DEVICE);
+    add_channel(feature, phone, one_in(4));
+}
+
 /* A phone, features in a row, and a phone. Sometimes one more phone is at a feature, or another call's feature; so the
  * boxes never stand in a ring. */
 static void add_call(void) {
@@ -198,14 +203,14 @@ static void add_call(void) {
         int feature = add_box(MEDIA_FEATURE);
         add_channel(last, feature, has_video);
         last = feature;
-        if (one_in(4)) add_channel(feature, add_box(MEDIA_DEVICE), one_in(4));
+        if (one_in(4)) add_phone(feature);
     }
     if (more != NONE && is_feature(last)) add_channel(last, more, one_in(4));
     add_channel(last, add_box(MEDIA_DEVICE), has_video);
 }
 
 /* Each shard gets a box; where the others come is drawn. */
-static void draw_homes(void) {
+static void draw_shards(void) {
     int order[BOX_MOST];
     for (int i = 0; i < net.box_count; i++) {
         int at = below(i + 1);
@@ -214,18 +219,18 @@ static void draw_homes(void) {
     }
     for (int i = 0; i < net.box_count; i++)
         net.boxes[order[i]].shard = i < net.shard_count ? i : below(net.shard_count);
-    memset(net.homes, 0, sizeof net.homes);
+    memset(net.shards, 0, sizeof net.shards);
     for (int i = 0; i < net.box_count; i++) {
-        struct home *home = &net.homes[net.boxes[i].shard];
-        net.boxes[i].number = home->box_count;
-        home->boxes[home->box_count++] = i;
+        struct shard *here = &net.shards[net.boxes[i].shard];
+        net.boxes[i].number = here->box_count;
+        here->boxes[here->box_count++] = i;
     }
     for (int end = 0; end < 2 * net.channel_count; end++) {
-        struct home *home = &net.homes[shard_of(end)];
-        net.end_numbers[end] = home->end_count;
-        home->ends[home->end_count++] = end;
+        struct shard *here = &net.shards[shard_of(end)];
+        net.end_numbers[end] = here->end_count;
+        here->ends[here->end_count++] = end;
     }
-    for (int i = 0; i < net.shard_count; i++) net.homes[i].askers = 1 + below(ASKER_MOST);
+    for (int i = 0; i < net.shard_count; i++) net.shards[i].askers = 1 + below(ASKER_MOST);
 }
 
 static void draw_network(void) {
@@ -235,7 +240,7 @@ static void draw_network(void) {
     for (int i = 0; i < calls; i++) add_call();
     int most = net.box_count < SHARD_MOST ? net.box_count : SHARD_MOST;
     net.shard_count = one_in(3) ? 1 + below(most) : 1 + below(most < 6 ? most : 6);
-    draw_homes();
+    draw_shards();
 }
 
 /* ---- the script, whose text alone decides what is printed: no path is hold against hold at a settle */
@@ -286,7 +291,7 @@ static void add_command(struct batch *batch, int box, uint8_t kind, int first, i
     struct command *it = &batch->commands[batch->count++];
     int shard = net.boxes[box].shard;
     *it = (struct command){box, {kind, (uint8_t)first, (uint8_t)second}, 0, 0};
-    it->asker = (uint32_t)(net.boxes[box].number % net.homes[shard].askers);
+    it->asker = (uint32_t)(net.boxes[box].number % net.shards[shard].askers);
     it->number = ++asked_so_far[shard][it->asker];
     apply(it);
 }
@@ -326,7 +331,8 @@ static void draw_command(struct batch *batch) {
     int partner = is_feature(box) && !one_in(5) ? pick_partner(box, local) : NONE;
     if (partner != NONE) add_command(batch, box, MEDIA_SET_LINK, local, partner);
     else if (is_feature(box) || !one_in(3)) add_command(batch, box, MEDIA_SET_GOAL, local, draw_goal());
-    else add_command(batch, box, one_in(2) ? MEDIA_HEAR : MEDIA_TALK, local, !one_in(3));
+    else if (one_in(2)) add_command(batch, box, MEDIA_HEAR, local, !one_in(3));
+    else add_command(batch, box, MEDIA_TALK, local, !one_in(3));
 }
 
 /* Links through all features, and a goal for each phone. */
@@ -416,23 +422,34 @@ static void write_text(FILE *to) {
     }
 }
 
-/* ---- how bad a run is: each number is one of how many times it happens, and 0 never */
+/* ---- what goes wrong in a run, and how often: each number says one of how many times, and 0 never */
 
 enum engine { SOUND, LOSES, TWO_WRITE };
 static enum engine engine;
-static struct weather {
+static struct odds {
     int crash, begin_second, lose_append, double_append, lose_answer, stale_read, lose_signal, double_signal, damage,
         lose_message, refuse_memory, probe, break_promise;
-} weather, calm;
+} odds, calm;
 
 static int rate(int from, int to) { return among(4) == 0 ? 0 : from + among(to - from + 1); }
 
-static void draw_weather(void) {
+static void draw_odds(void) {
     memset(&calm, 0, sizeof calm);
-    weather = (struct weather){rate(20, 400), rate(30, 800), rate(3, 40), rate(3, 40), rate(3, 40), rate(3, 20),
-                               rate(2, 20), rate(2, 20), rate(10, 60), rate(4, 40), rate(30, 900), rate(8, 80), 0};
-    if (engine == LOSES) weather.break_promise = 20 + among(300);
-    if (engine == TWO_WRITE) weather.break_promise = 1 + among(20);
+    odds = calm;
+    odds.crash = rate(20, 400);
+    odds.begin_second = rate(30, 800);
+    odds.lose_append = rate(3, 40);
+    odds.double_append = rate(3, 40);
+    odds.lose_answer = rate(3, 40);
+    odds.stale_read = rate(3, 20);
+    odds.lose_signal = rate(2, 20);
+    odds.double_signal = rate(2, 20);
+    odds.damage = rate(10, 60);
+    odds.lose_message = rate(4, 40);
+    odds.refuse_memory = rate(30, 900);
+    odds.probe = rate(8, 80);
+    if (engine == LOSES) odds.break_promise = 20 + among(300);
+    if (engine == TWO_WRITE) odds.break_promise = 1 + among(20);
 }
 
 /* ---- memory, which is refused to processes now and then: the linker has malloc and realloc lead here */
@@ -444,7 +461,7 @@ void *__wrap_realloc(void *at, size_t size);
 static bool may_refuse;
 
 static bool is_refused(void) {
-    bool refused = may_refuse && happens(weather.refuse_memory);
+    bool refused = may_refuse && happens(odds.refuse_memory);
     counts[MEMORY] += refused;
     return refused;
 }
@@ -494,7 +511,7 @@ static struct journal journals[SHARD_MOST];
  * the greatest stamp. */
 static uint64_t sent_at[END_MOST], taken_at[END_MOST], made_of[SHARD_MOST][ASKER_MOST], greatest;
 
-static int end_at(int shard, uint32_t number) { return net.homes[shard].ends[number]; }
+static int end_at(int shard, uint32_t number) { return net.shards[shard].ends[number]; }
 
 /* The retries that are owed: each is asked for once, of a process that knows its journal up to the cut. */
 struct owed {
@@ -599,7 +616,7 @@ static void lose_places(int shard) {
 
 /* Whether the engine breaks its promise so, now. */
 static bool breaks(enum engine how) {
-    return engine == how && loss_count + 2 <= LOSS_MOST && happens(weather.break_promise);
+    return engine == how && loss_count + 2 <= LOSS_MOST && happens(odds.break_promise);
 }
 
 static bool has_bytes(const struct place *it, const uint8_t *bytes, size_t size) {
@@ -623,7 +640,7 @@ static bool accept(int shard, const struct append *it) {
 }
 
 static void answer(struct journal *to, const struct append *it, bool accepted) {
-    if (happens(weather.lose_answer) || to->answer_count == APPEND_MOST) counts[UNANSWERED]++;
+    if (happens(odds.lose_answer) || to->answer_count == APPEND_MOST) counts[UNANSWERED]++;
     else to->answers[to->answer_count++] = (struct answer){it->process, it->expected, accepted};
 }
 
@@ -632,12 +649,12 @@ static void serve_append(int shard) {
     if (to->append_count == 0) return;
     int at = among(to->append_count);
     struct append it = to->appends[at];
-    if (happens(weather.lose_append)) counts[LOST_APPENDS]++;
+    if (happens(odds.lose_append)) counts[LOST_APPENDS]++;
     else {
         answer(to, &it, accept(shard, &it));
         if (breaks(LOSES)) lose_places(shard);
     }
-    if (happens(weather.double_append)) {
+    if (happens(odds.double_append)) {
         counts[DOUBLED_APPENDS]++;
         return;
     }
@@ -698,16 +715,16 @@ static void carry(int shard, const media_at_end *sent) {
     int far = end_at(shard, sent->end) ^ 1;
     struct message it = {NULL, 0, false, *sent};
     it.at.end = (uint32_t)net.end_numbers[far];
-    if (happens(weather.lose_signal)) {
+    if (happens(odds.lose_signal)) {
         counts[LOST_SIGNALS]++;
         return;
     }
     push_message(shard_of(far), &it);
-    if (happens(weather.double_signal)) {
+    if (happens(odds.double_signal)) {
         counts[DOUBLED_SIGNALS]++;
         push_message(shard_of(far), &it);
     }
-    if (happens(weather.damage)) {
+    if (happens(odds.damage)) {
         it.is_damaged = true;
         damage(&it.at);
         push_message(shard_of(far), &it);
@@ -717,8 +734,8 @@ static void carry(int shard, const media_at_end *sent) {
 /* Somebody reads a journal for what was sent at one of its ends: from any place, or from that of the first signal that
  * wasn't taken. */
 static void read_again(int shard) {
-    if (net.homes[shard].end_count == 0) return;
-    int end = net.homes[shard].ends[among(net.homes[shard].end_count)];
+    if (net.shards[shard].end_count == 0) return;
+    int end = net.shards[shard].ends[among(net.shards[shard].end_count)];
     const struct journal *from = &journals[shard];
     size_t place = happens(4) && from->count > 0 ? (size_t)among((int)from->count) : 0;
     bool is_any = place > 0;
@@ -768,10 +785,10 @@ static uint32_t process_count;
 static bool make_shard(int shard, media_shard *made) {
     static media_shard_box boxes[BOX_MOST];
     static media_shard_slot slots[SLOT_MOST];
-    const struct home *home = &net.homes[shard];
+    const struct shard *here = &net.shards[shard];
     size_t count = 0;
-    for (int i = 0; i < home->box_count; i++) {
-        const struct box *box = &net.boxes[home->boxes[i]];
+    for (int i = 0; i < here->box_count; i++) {
+        const struct box *box = &net.boxes[here->boxes[i]];
         boxes[i] = (media_shard_box){box->setup, (uint32_t)box->count, 0};
         for (int k = 0; k < box->count; k++) {
             const struct slot *slot = &net.slots[box->slots[k]];
@@ -780,8 +797,8 @@ static bool make_shard(int shard, media_shard *made) {
         }
     }
     static const media_state none;
-    uint32_t code = media_shard_make(made, boxes, (size_t)home->box_count, slots, count, &none, 0,
-                                     (uint32_t)home->end_count, (uint32_t)home->askers);
+    uint32_t code = media_shard_make(made, boxes, (size_t)here->box_count, slots, count, &none, 0,
+                                     (uint32_t)here->end_count, (uint32_t)here->askers);
     return !lacks_memory(code) && went(code, "the making", shard);
 }
 
@@ -841,7 +858,7 @@ static void claim(int shard, struct process *it) {
 /* Some places further, to what the process takes for the end. */
 static void step_replaying(int shard, struct process *it) {
     size_t end = journals[shard].count;
-    bool is_stale = happens(weather.stale_read);
+    bool is_stale = happens(odds.stale_read);
     for (int i = among(16); i >= 0 && it->place < end; i--) {
         if (!replay_place(shard, &it->shard, it->place)) {
             end_process(shard, it);
@@ -925,7 +942,7 @@ static void step_free(int shard, struct process *it) {
     int at = among(from->count);
     struct message message = from->at[at];
     from->at[at] = from->at[--from->count];
-    if (happens(weather.lose_message)) return;
+    if (happens(odds.lose_message)) return;
     if (message.asks == NULL) step_signal(shard, it, &message);
     else step_request(shard, it, &message);
 }
@@ -949,8 +966,8 @@ static void probe_waiting(int shard, struct process *it) {
 static void probe_retry(int shard, struct process *it) {
     const media_asked nobody = {0, 0, 0};
     static media_slot_view view;
-    uint32_t number = (uint32_t)among(net.homes[shard].box_count);
-    const struct box *box = &net.boxes[net.homes[shard].boxes[number]];
+    uint32_t number = (uint32_t)among(net.shards[shard].box_count);
+    const struct box *box = &net.boxes[net.shards[shard].boxes[number]];
     media_event event = {MEDIA_RETRY, (uint8_t)among(box->count), 0};
     uint8_t made;
     if (!went(media_shard_see_slot(&it->shard, number, event.first, &view), "a slot", shard) || view.owes) return;
@@ -960,18 +977,18 @@ static void probe_retry(int shard, struct process *it) {
 
 /* Calls that have to be refused change nothing. */
 static void probe_free(int shard, struct process *it) {
-    const struct home *home = &net.homes[shard];
-    const media_asked nobody = {0, 0, 0}, stranger = {1, (uint32_t)home->askers, 1};
+    const struct shard *here = &net.shards[shard];
+    const media_asked nobody = {0, 0, 0}, stranger = {1, (uint32_t)here->askers, 1};
     const media_asked later = {1, 0, UINT64_MAX};
     const media_event event = {MEDIA_SET_GOAL, 0, MEDIA_GOAL_OPEN};
     const media_event none = {MEDIA_SET_GOAL, BOX_SLOT_MOST, MEDIA_GOAL_OPEN};
-    const media_at_end far_off = {.number = 1, .end = (uint32_t)home->end_count, .signal = {.kind = MEDIA_CLOSE}};
+    const media_at_end far_off = {.number = 1, .end = (uint32_t)here->end_count, .signal = {.kind = MEDIA_CLOSE}};
     uint8_t made = 1;
     size_t count;
     counts[PROBES]++;
     if (media_shard_request(&it->shard, &stranger, 0, &event, known, &made) != MEDIA_NO_ASKER || made != 0
         || media_shard_request(&it->shard, &later, 0, &event, known, &made) != MEDIA_AHEAD
-        || media_shard_request(&it->shard, &nobody, (uint32_t)home->box_count, &event, known, &made) != MEDIA_NO_BOX
+        || media_shard_request(&it->shard, &nobody, (uint32_t)here->box_count, &event, known, &made) != MEDIA_NO_BOX
         || media_shard_request(&it->shard, &nobody, 0, &none, known, &made) != MEDIA_DISABLED
         || media_shard_arrive(&it->shard, &far_off, &made) != MEDIA_NO_END
         || media_shard_write(&it->shard, it->bytes, MEDIA_ENTRY_ROOM, &count) != MEDIA_NONE_WAITS)
@@ -1010,7 +1027,7 @@ static void give_way(int shard, struct process *it) {
 /* The append was refused, or wasn't answered: what stands at its place says what came of it. */
 static void settle_append(int shard, struct process *it) {
     const struct journal *in = &journals[shard];
-    if (it->place >= in->count || happens(weather.stale_read)) {
+    if (it->place >= in->count || happens(odds.stale_read)) {
         if (among(3) == 0) send_bytes(shard, it);
         it->patience = 1 + among(12);
         return;
@@ -1061,12 +1078,12 @@ static void step_stands(int shard, struct process *it) {
 }
 
 static void step_process(int shard, struct process *it) {
-    if (it->phase != GONE && happens(weather.crash)) {
+    if (it->phase != GONE && happens(odds.crash)) {
         crash(shard, it);
         return;
     }
-    if (it->phase >= MADE && !it->is_mark && happens(weather.probe)) probe_waiting(shard, it);
-    if (it->phase == FREE && happens(weather.probe)) probe_free(shard, it);
+    if (it->phase >= MADE && !it->is_mark && happens(odds.probe)) probe_waiting(shard, it);
+    if (it->phase == FREE && happens(odds.probe)) probe_free(shard, it);
     may_refuse = true;
     switch (it->phase) {
     case GONE: break;
@@ -1089,7 +1106,7 @@ static void tend(int shard) {
         else gone = &processes[shard][i];
     if (gone == NULL) return;
     if (living == 0 && among(4) == 0) begin_process(shard, gone);
-    if (living > 0 && happens(weather.begin_second)) {
+    if (living > 0 && happens(odds.begin_second)) {
         counts[SECOND_OWNERS]++;
         begin_process(shard, gone);
     }
@@ -1118,16 +1135,16 @@ static void step(void) {
 
 /* Steps until all is quiet. After many of them nothing more is broken; then it has to come to rest. */
 static bool settle_down(void) {
-    struct weather drawn = weather;
+    struct odds drawn = odds;
     unsigned long rough = 400ul * (unsigned long)(net.shard_count + batch->count);
     unsigned long most = 20 * rough + 200000;
     unsigned long steps = 0;
     for (; fault[0] == 0 && !is_quiet(); steps++) {
-        if (steps == rough) weather = calm;
+        if (steps == rough) odds = calm;
         if (steps == most) note("rest: the shards don't come to rest");
         step();
     }
-    weather = drawn;
+    odds = drawn;
     return fault[0] == 0;
 }
 
@@ -1162,9 +1179,9 @@ static void compare_living(int shard) {
     for (int i = 0; i < PROCESS_MOST; i++) {
         struct process *it = &processes[shard][i];
         if (it->phase != FREE || is_behind(shard, it)) continue;
-        for (int k = 0; k < net.homes[shard].box_count; k++) {
-            const struct box *box = &net.boxes[net.homes[shard].boxes[k]];
-            if (!see_box(net.homes[shard].boxes[k], &it->shard, living)) return;
+        for (int k = 0; k < net.shards[shard].box_count; k++) {
+            const struct box *box = &net.boxes[net.shards[shard].boxes[k]];
+            if (!see_box(net.shards[shard].boxes[k], &it->shard, living)) return;
             for (int n = 0; n < box->count; n++)
                 if (!same_view(&living[box->slots[n]], &views[box->slots[n]]))
                     note("views: a living process of shard %d sees another slot", shard);
@@ -1177,8 +1194,8 @@ static bool see_shard(int shard) {
     if (!make_shard(shard, &again)) return false;
     bool is_seen = true;
     for (size_t i = 0; is_seen && i < journals[shard].count; i++) is_seen = replay_place(shard, &again, i);
-    for (int i = 0; is_seen && i < net.homes[shard].box_count; i++)
-        is_seen = see_box(net.homes[shard].boxes[i], &again, views);
+    for (int i = 0; is_seen && i < net.shards[shard].box_count; i++)
+        is_seen = see_box(net.shards[shard].boxes[i], &again, views);
     if (again.made) went(media_shard_end(&again), "the end", shard);
     if (is_seen) compare_living(shard);
     return is_seen && fault[0] == 0;
@@ -1188,9 +1205,9 @@ static bool see_shard(int shard) {
  * part of an entry is none. */
 static void spoil_entry(int shard, media_shard *again, const struct place *it) {
     static uint8_t bytes[MEDIA_ENTRY_ROOM];
-    size_t size, part = SIGNAL_SIZE * it->sent_count;
+    size_t size, at = it->size - 1 - (size_t)among(SIGNAL_SIZE * (int)it->sent_count);
     memcpy(bytes, it->bytes, it->size);
-    bytes[it->size - 1 - (size_t)among((int)part)] ^= (uint8_t)(1 << among(8));
+    bytes[at] ^= (uint8_t)(1 << among(8));
     if (media_shard_replay(again, it->bytes, (size_t)among((int)it->size), &size) != MEDIA_NO_ENTRY || size != 0)
         note("shard %d replays a part of an entry", shard);
     uint32_t code = media_shard_replay(again, bytes, it->size, &size);
@@ -1390,7 +1407,7 @@ static struct line *merge(size_t *count) {
         for (size_t k = 0; k < journals[i].count; k++) {
             const media_entry *it = &journals[i].at[k].entry;
             if (journals[i].at[k].is_mark) continue;
-            lines[(*count)++] = (struct line){it->stamp, i, net.homes[i].boxes[it->box], it->event};
+            lines[(*count)++] = (struct line){it->stamp, i, net.shards[i].boxes[it->box], it->event};
         }
     qsort(lines, *count, sizeof *lines, by_stamp);
     return lines;
@@ -1442,7 +1459,7 @@ static void begin_run(unsigned long seed) {
     owed_count = loss_count = 0;
     draw_network();
     draw_script();
-    draw_weather();
+    draw_odds();
     count_again();
     counts[SHARDS] = (unsigned long)net.shard_count;
     counts[BOXES] = (unsigned long)net.box_count;
