@@ -26,6 +26,8 @@ enum {
     SLOT_MOST = 2 * TUNNEL_MOST, /* of the network */
     END_MOST = 2 * CHANNEL_MOST,
     CODEC_MOST = 6,
+    STATE_MOST = 4, /* of a program */
+    WORD_MOST = 3,
     ASKER_MOST = 3,
     BATCH_MOST = 512,
     SETTLE_MOST = 6,
@@ -96,6 +98,9 @@ struct box {
     bool sends_apart; /* it has a `send` line */
     int count, slots[BOX_SLOT_MOST];
     int shard, number; /* which shard has it, and its number there */
+    uint8_t state_count; /* 0: it has no program */
+    media_state states[STATE_MOST];
+    uint8_t targets[WORD_MOST]; /* the state to which each told word leads, from any state */
 };
 struct slot {
     int box, channel;
@@ -108,7 +113,7 @@ struct shard {
     int askers;
 };
 static struct network {
-    int codec_count, box_count, channel_count, slot_count, shard_count;
+    int codec_count, box_count, channel_count, slot_count, shard_count, word_count;
     struct box boxes[BOX_MOST];
     struct slot slots[SLOT_MOST]; /* tunnel t has the slots 2t, which is the initiator's, and 2t + 1 */
     int end_boxes[END_MOST];      /* channel k has the ends 2k, which is the initiator's, and 2k + 1 */
@@ -116,6 +121,7 @@ static struct network {
     struct shard shards[SHARD_MOST];
 } net;
 
+static bool has_program(int box) { return net.boxes[box].state_count > 0; }
 static bool is_feature(int box) { return net.boxes[box].setup.kind == MEDIA_FEATURE; }
 static int end_of(int slot) { return 2 * net.slots[slot].channel + slot % 2; }
 static int shard_of(int end) { return net.boxes[net.end_boxes[end]].shard; }
@@ -233,11 +239,53 @@ static void draw_shards(void) {
     for (int i = 0; i < net.shard_count; i++) net.shards[i].askers = 1 + below(ASKER_MOST);
 }
 
+/* Another slot of the box with the same medium, for which no goal is drawn yet, or NONE. */
+static int pick_partner(int box, int local, const bool *is_drawn) {
+    const struct box *it = &net.boxes[box];
+    int found = NONE, count = 0;
+    uint8_t medium = net.slots[it->slots[local]].made.medium;
+    for (int i = 0; i < it->count; i++)
+        if (i != local && !is_drawn[i] && net.slots[it->slots[i]].made.medium == medium && one_in(++count)) found = i;
+    return found;
+}
+
+/* Links, and ends that open or close: so no path is hold against hold by a program. */
+static void draw_goals(int box, media_state *state) {
+    bool is_drawn[BOX_SLOT_MOST] = {false};
+    for (int i = 0; i < net.boxes[box].count; i++) {
+        if (is_drawn[i]) continue;
+        int partner = one_in(4) ? NONE : pick_partner(box, i, is_drawn);
+        is_drawn[i] = true;
+        state->goals[i] = (media_goal){one_in(2) ? MEDIA_GOAL_OPEN : MEDIA_GOAL_CLOSE, 0};
+        if (partner == NONE) continue;
+        is_drawn[partner] = true;
+        state->goals[i] = (media_goal){MEDIA_GOAL_LINK, (uint8_t)partner};
+        state->goals[partner] = (media_goal){MEDIA_GOAL_LINK, (uint8_t)i};
+    }
+}
+
+/* Each state waits for each word, and the last word alone says at which state the program ends. */
+static void draw_program(int box) {
+    struct box *it = &net.boxes[box];
+    it->state_count = (uint8_t)(1 + below(STATE_MOST));
+    for (int word = 0; word < net.word_count; word++) it->targets[word] = (uint8_t)below(it->state_count);
+    for (int i = 0; i < it->state_count; i++) {
+        media_state *state = &it->states[i];
+        draw_goals(box, state);
+        for (int word = 0; word < net.word_count; word++)
+            state->rules[state->count++] = (media_rule){MEDIA_TOLD, (uint8_t)word, 0, it->targets[word]};
+    }
+}
+
 static void draw_network(void) {
     memset(&net, 0, sizeof net);
     net.codec_count = 1 + below(CODEC_MOST);
     int calls = one_in(12) ? 8 + below(14) : 1 + below(4);
     for (int i = 0; i < calls; i++) add_call();
+    net.word_count = 1 + below(WORD_MOST);
+    bool has_programs = one_in(2);
+    for (int i = 0; has_programs && i < net.box_count; i++)
+        if (is_feature(i) && one_in(3)) draw_program(i);
     int most = net.box_count < SHARD_MOST ? net.box_count : SHARD_MOST;
     net.shard_count = one_in(3) ? 1 + below(most) : 1 + below(most < 6 ? most : 6);
     draw_shards();
@@ -269,8 +317,21 @@ static void set_free(int slot) {
     if (goals[slot].goal == MEDIA_GOAL_LINK) goals[goals[slot].partner].goal = MEDIA_GOAL_HOLD;
 }
 
+/* A program comes to a state. */
+static void enter(int box, int state) {
+    const struct box *it = &net.boxes[box];
+    for (int i = 0; i < it->count; i++) {
+        media_goal goal = it->states[state].goals[i];
+        goals[it->slots[i]] = (struct goal){goal.goal, goal.goal == MEDIA_GOAL_LINK ? it->slots[goal.partner] : NONE};
+    }
+}
+
 static void apply(const struct command *it) {
     const struct box *box = &net.boxes[it->box];
+    if (it->event.kind == MEDIA_TELL) {
+        enter(it->box, box->targets[it->event.first]);
+        return;
+    }
     int one = box->slots[it->event.first];
     if (it->event.kind == MEDIA_SET_GOAL) {
         set_free(one);
@@ -316,19 +377,14 @@ static int draw_goal(void) {
     return n < 10 ? MEDIA_GOAL_OPEN : n < 16 ? MEDIA_GOAL_HOLD : MEDIA_GOAL_CLOSE;
 }
 
-/* Another slot of the box with the same medium, or NONE. */
-static int pick_partner(int box, int local) {
-    const struct box *it = &net.boxes[box];
-    int found = NONE, count = 0;
-    uint8_t medium = net.slots[it->slots[local]].made.medium;
-    for (int i = 0; i < it->count; i++)
-        if (i != local && net.slots[it->slots[i]].made.medium == medium && one_in(++count)) found = i;
-    return found;
-}
-
 static void draw_command(struct batch *batch) {
+    const bool none_is_drawn[BOX_SLOT_MOST] = {false};
     int box = below(net.box_count), local = below(net.boxes[box].count);
-    int partner = is_feature(box) && !one_in(5) ? pick_partner(box, local) : NONE;
+    if (has_program(box)) {
+        add_command(batch, box, MEDIA_TELL, below(net.word_count), 0);
+        return;
+    }
+    int partner = is_feature(box) && !one_in(5) ? pick_partner(box, local, none_is_drawn) : NONE;
     if (partner != NONE) add_command(batch, box, MEDIA_SET_LINK, local, partner);
     else if (is_feature(box) || !one_in(3)) add_command(batch, box, MEDIA_SET_GOAL, local, draw_goal());
     else if (one_in(2)) add_command(batch, box, MEDIA_HEAR, local, !one_in(3));
@@ -337,9 +393,10 @@ static void draw_command(struct batch *batch) {
 
 /* Links through all features, and a goal for each phone. */
 static void draw_first(struct batch *batch) {
+    const bool none_is_drawn[BOX_SLOT_MOST] = {false};
     for (int box = 0; box < net.box_count; box++)
-        for (int i = 0; i < net.boxes[box].count; i++) {
-            int partner = is_feature(box) ? pick_partner(box, i) : NONE;
+        for (int i = 0; i < net.boxes[box].count && !has_program(box); i++) {
+            int partner = is_feature(box) ? pick_partner(box, i, none_is_drawn) : NONE;
             if (partner != NONE && !one_in(8)) add_command(batch, box, MEDIA_SET_LINK, i, partner);
             if (!is_feature(box)) add_command(batch, box, MEDIA_SET_GOAL, i, draw_goal());
         }
@@ -348,6 +405,8 @@ static void draw_first(struct batch *batch) {
 static void draw_script(void) {
     for (int i = 0; i < SLOT_MOST; i++) goals[i] = (struct goal){MEDIA_GOAL_CLOSE, NONE};
     memset(asked_so_far, 0, sizeof asked_so_far);
+    for (int i = 0; i < net.box_count; i++)
+        if (has_program(i)) enter(i, 0);
     script.settle_count = 1 + below(SETTLE_MOST);
     for (int i = 0; i < script.settle_count; i++) {
         struct batch *batch = &script.batches[i];
@@ -396,6 +455,28 @@ static void write_channels(FILE *to) {
     }
 }
 
+static void write_state(FILE *to, const struct box *box, int number) {
+    const media_state *state = &box->states[number];
+    fprintf(to, "state p%d\n", number);
+    for (int i = 0; i < box->count; i++) {
+        const media_goal *goal = &state->goals[i];
+        if (goal->goal != MEDIA_GOAL_LINK) fprintf(to, "goal s%d %s\n", i, goal_names[goal->goal]);
+        else if (goal->partner > i) fprintf(to, "link s%d s%d\n", i, goal->partner);
+    }
+    for (int i = 0; i < state->count; i++)
+        fprintf(to, "when told w%d p%d\n", state->rules[i].first, state->rules[i].target);
+}
+
+static void write_programs(FILE *to) {
+    for (int i = 0; i < net.box_count; i++) {
+        if (!has_program(i)) continue;
+        fprintf(to, "prog f%d", i);
+        for (int state = 0; state < net.boxes[i].state_count; state++) fprintf(to, " p%d", state);
+        fputc('\n', to);
+        for (int state = 0; state < net.boxes[i].state_count; state++) write_state(to, &net.boxes[i], state);
+    }
+}
+
 /* An event of a box as texts and journals have it. */
 static void write_event(FILE *to, int box, media_event event) {
     char name = letter(box);
@@ -405,15 +486,18 @@ static void write_event(FILE *to, int box, media_event event) {
     case MEDIA_SET_LINK: fprintf(to, "link %c%d s%d s%d\n", name, box, first, second); break;
     case MEDIA_HEAR: fprintf(to, "hear %c%d s%d %s\n", name, box, first, second ? "on" : "off"); break;
     case MEDIA_TALK: fprintf(to, "talk %c%d s%d %s\n", name, box, first, second ? "on" : "off"); break;
+    case MEDIA_TELL: fprintf(to, "tell %c%d w%d\n", name, box, first); break;
+    case MEDIA_SHIFT: fprintf(to, "shift %c%d\n", name, box); break;
     case MEDIA_RETRY: fprintf(to, "retry %c%d s%d\n", name, box, first); break;
     case MEDIA_TAKE: fprintf(to, "take %c%d s%d\n", name, box, first); break;
-    default: fprintf(to, "event %d\n", event.kind);
+    default: fprintf(to, "event %d\n", event.kind); /* that no text has */
     }
 }
 
 static void write_text(FILE *to) {
     write_boxes(to);
     write_channels(to);
+    write_programs(to);
     fprintf(to, "begin\n");
     for (int i = 0; i < script.settle_count; i++) {
         const struct batch *batch = &script.batches[i];
@@ -507,9 +591,10 @@ struct journal {
 };
 static struct journal journals[SHARD_MOST];
 
-/* What the journals say: how many signals were sent and taken at each channel end, the last number of each asker, and
- * the greatest stamp. */
+/* What the journals say: how many signals were sent and taken at each channel end, the last number of each asker, the
+ * greatest stamp, and of each program whether it is at a state, and whether it has a word to go on by. */
 static uint64_t sent_at[END_MOST], taken_at[END_MOST], made_of[SHARD_MOST][ASKER_MOST], greatest;
+static bool is_at_state[BOX_MOST], has_word[BOX_MOST];
 
 static int end_at(int shard, uint32_t number) { return net.shards[shard].ends[number]; }
 
@@ -530,8 +615,15 @@ static void count_retry(int shard, const media_entry *entry) {
     }
 }
 
+static void count_program(int box, uint8_t kind) {
+    if (kind == MEDIA_TELL) has_word[box] = true;
+    if (kind == MEDIA_SHIFT && is_at_state[box]) has_word[box] = false;
+    if (kind == MEDIA_SHIFT) is_at_state[box] = true;
+}
+
 static void count_place(int shard, const struct place *it) {
     if (it->is_mark) return;
+    count_program(net.shards[shard].boxes[it->entry.box], it->entry.event.kind);
     for (size_t i = 0; i < it->sent_count; i++) sent_at[end_at(shard, it->sent[i].end)] = it->sent[i].number;
     if (it->entry.has_taken) taken_at[end_at(shard, it->entry.taken.end)] = it->entry.taken.number;
     if (it->entry.asked.has_asker) made_of[shard][it->entry.asked.asker] = it->entry.asked.number;
@@ -543,6 +635,8 @@ static void count_again(void) {
     memset(sent_at, 0, sizeof sent_at);
     memset(taken_at, 0, sizeof taken_at);
     memset(made_of, 0, sizeof made_of);
+    memset(is_at_state, 0, sizeof is_at_state);
+    memset(has_word, 0, sizeof has_word);
     for (int i = 0; i < net.shard_count; i++)
         for (size_t k = 0; k < journals[i].count; k++) count_place(i, &journals[i].at[k]);
 }
@@ -785,19 +879,20 @@ static uint32_t process_count;
 static bool make_shard(int shard, media_shard *made) {
     static media_shard_box boxes[BOX_MOST];
     static media_shard_slot slots[SLOT_MOST];
+    static media_state states[BOX_MOST * STATE_MOST];
     const struct shard *here = &net.shards[shard];
-    size_t count = 0;
+    size_t count = 0, state_count = 0;
     for (int i = 0; i < here->box_count; i++) {
         const struct box *box = &net.boxes[here->boxes[i]];
-        boxes[i] = (media_shard_box){box->setup, (uint32_t)box->count, 0};
+        boxes[i] = (media_shard_box){box->setup, (uint32_t)box->count, box->state_count};
+        for (int k = 0; k < box->state_count; k++) states[state_count++] = box->states[k];
         for (int k = 0; k < box->count; k++) {
             const struct slot *slot = &net.slots[box->slots[k]];
             int end = end_of(box->slots[k]);
             slots[count++] = (media_shard_slot){slot->made, (uint32_t)net.end_numbers[end], slot->tunnel};
         }
     }
-    static const media_state none;
-    uint32_t code = media_shard_make(made, boxes, (size_t)here->box_count, slots, count, &none, 0,
+    uint32_t code = media_shard_make(made, boxes, (size_t)here->box_count, slots, count, states, state_count,
                                      (uint32_t)here->end_count, (uint32_t)here->askers);
     return !lacks_memory(code) && went(code, "the making", shard);
 }
@@ -930,6 +1025,21 @@ static bool step_retry(int shard, struct process *it) {
     return false;
 }
 
+/* Whether a box goes on by its program. Nobody asks for that. */
+static bool step_shift(int shard, struct process *it) {
+    const media_asked nobody = {0, 0, 0};
+    const media_event event = {MEDIA_SHIFT, 0, 0};
+    static media_box_view view;
+    uint32_t number = (uint32_t)among(net.shards[shard].box_count);
+    uint8_t made;
+    if (!has_program(net.shards[shard].boxes[number])) return false;
+    if (!went(media_shard_see_box(&it->shard, number, &view), "a box", shard) || !view.shifts) return false;
+    uint32_t code = media_shard_request(&it->shard, &nobody, number, &event, 0, &made);
+    if (code == MEDIA_OK) turn_made(it);
+    else if (!lacks_memory(code)) note("a shift of shard %d: %s", shard, code_text(code));
+    return true;
+}
+
 static void step_free(int shard, struct process *it) {
     struct traffic *from = &traffic[shard];
     if (is_behind(shard, it) && among(4) == 0) {
@@ -938,6 +1048,7 @@ static void step_free(int shard, struct process *it) {
         return;
     }
     if (owed_count > 0 && among(2) == 0 && step_retry(shard, it)) return;
+    if (among(3) == 0 && step_shift(shard, it)) return;
     if (from->count == 0) return;
     int at = among(from->count);
     struct message message = from->at[at];
@@ -1119,6 +1230,8 @@ static bool is_quiet(void) {
         if (!is_made(i)) return false;
     for (int i = 0; i < owed_count; i++)
         if (!owed[i].is_made && !owed[i].is_disabled) return false;
+    for (int i = 0; i < net.box_count; i++)
+        if (has_program(i) && (has_word[i] || !is_at_state[i])) return false;
     for (int end = 0; end < 2 * net.channel_count; end++)
         if (sent_at[end] != taken_at[end ^ 1]) return false;
     return true;
@@ -1153,6 +1266,11 @@ static bool settle_down(void) {
 static media_slot_view views[SLOT_MOST];
 
 static bool see_box(int box, media_shard *in, media_slot_view *to) {
+    static media_box_view view;
+    uint32_t seen = media_shard_see_box(in, (uint32_t)net.boxes[box].number, &view);
+    if (!went(seen, "a box", net.boxes[box].shard)) return false;
+    if (view.shifts || view.slots != net.boxes[box].count || view.number != (uint32_t)box)
+        note("views: box %d isn't at rest, or is another", box);
     for (int i = 0; i < net.boxes[box].count; i++) {
         int slot = net.boxes[box].slots[i];
         memset(&to[slot], 0, sizeof to[slot]);
