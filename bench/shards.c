@@ -10,7 +10,7 @@
  * `fault` with what was wrong, if anything was; then there may be no journal.
  *
  * With a fourth word the engine breaks its promise now and then: `lost` loses entries that it had taken and answered,
- * and `two` lets a second process write at a place that has an entry. */
+ * and `two` lets a second process write at a place that has an entry, over it or behind all. */
 #include <stdarg.h>
 #include <stdio.h>
 #include <stdlib.h>
@@ -692,11 +692,15 @@ static void lose_place(int shard, size_t number) {
     losses[loss_count++] = (struct loss){shard, number < settled_places[shard], journals[shard].at[number]};
 }
 
-/* A second process writes where an entry stands already. */
-static void write_over(int shard, const struct append *from) {
+/* A second process writes where an entry stands already: over it, or behind all. */
+static void write_anyway(int shard, const struct append *from) {
+    counts[BREAKS]++;
+    if (among(2) == 0) {
+        push_place(shard, from);
+        return;
+    }
     lose_place(shard, from->expected);
     journals[shard].at[from->expected] = place_of(shard, from);
-    counts[BREAKS]++;
     count_again();
 }
 
@@ -726,7 +730,7 @@ static bool accept(int shard, const struct append *it) {
     }
     bool is_other = it->expected < to->count && !has_bytes(&to->at[it->expected], it->bytes, it->size);
     if (is_other && breaks(TWO_WRITE)) {
-        write_over(shard, it);
+        write_anyway(shard, it);
         return true;
     }
     counts[REFUSED]++;
