@@ -29,7 +29,7 @@ enum {
     STATE_MOST = 4, /* of a program */
     WORD_MOST = 3,
     ASKER_MOST = 3,
-    BATCH_MOST = 512,
+    BATCH_MOST = 2048,
     SETTLE_MOST = 6,
     PROCESS_MOST = 3, /* of a shard at once */
     MESSAGE_MOST = 256,
@@ -87,7 +87,7 @@ static const char *code_text(uint32_t code) {
 
 /* Whether it was done; else that is wrong. */
 static bool went(uint32_t code, const char *what, int shard) {
-    if (code != MEDIA_OK) note("%s of shard %d: %s", what, shard, code_text(code));
+    if (code != MEDIA_OK) note("%s: shard %d: %s", what, shard, code_text(code));
     return code == MEDIA_OK;
 }
 
@@ -280,14 +280,14 @@ static void draw_program(int box) {
 static void draw_network(void) {
     memset(&net, 0, sizeof net);
     net.codec_count = 1 + below(CODEC_MOST);
-    int calls = one_in(12) ? 8 + below(14) : 1 + below(4);
+    int calls = one_in(8) ? 8 + below(14) : 1 + below(4);
     for (int i = 0; i < calls; i++) add_call();
     net.word_count = 1 + below(WORD_MOST);
     bool has_programs = one_in(2);
     for (int i = 0; has_programs && i < net.box_count; i++)
         if (is_feature(i) && one_in(3)) draw_program(i);
     int most = net.box_count < SHARD_MOST ? net.box_count : SHARD_MOST;
-    net.shard_count = one_in(3) ? 1 + below(most) : 1 + below(most < 6 ? most : 6);
+    net.shard_count = one_in(2) ? 1 + below(most) : 1 + below(most < 6 ? most : 6);
     draw_shards();
 }
 
@@ -654,8 +654,8 @@ static void read_place(int shard, struct place *it) {
     it->sent_count = 0;
     if (it->is_mark) return;
     uint32_t code = media_entry_read(it->bytes, it->size, &it->entry, sent, MEDIA_SENT_ROOM, &it->sent_count);
-    if (!went(code, "an entry in the journal", shard)) return;
-    if (it->entry.size != it->size) note("an entry of shard %d has another size", shard);
+    if (!went(code, "read", shard)) return;
+    if (it->entry.size != it->size) note("read: shard %d: an entry has another size", shard);
     it->sent = room_for(NULL, (it->sent_count + 1) * sizeof *sent);
     memcpy(it->sent, sent, it->sent_count * sizeof *sent);
 }
@@ -898,7 +898,7 @@ static bool make_shard(int shard, media_shard *made) {
     }
     uint32_t code = media_shard_make(made, boxes, (size_t)here->box_count, slots, count, states, state_count,
                                      (uint32_t)here->end_count, (uint32_t)here->askers);
-    return !lacks_memory(code) && went(code, "the making", shard);
+    return !lacks_memory(code) && went(code, "make", shard);
 }
 
 static void begin_process(int shard, struct process *it) {
@@ -913,7 +913,7 @@ static void begin_process(int shard, struct process *it) {
 }
 
 static void end_process(int shard, struct process *it) {
-    if (it->shard.made) went(media_shard_end(&it->shard), "the end", shard);
+    if (it->shard.made) went(media_shard_end(&it->shard), "end", shard);
     it->phase = GONE;
 }
 
@@ -932,9 +932,9 @@ static bool replay_place(int shard, media_shard *made, size_t place) {
     counts[REPLAYED]++;
     uint32_t code = media_shard_replay(made, it->bytes, it->size, &size);
     if (code == MEDIA_OK && size == it->size) return true;
-    if (code == MEDIA_OK) note("replay of shard %d at place %zu has another size", shard, place);
-    else if (made->made) note("replay of shard %d at place %zu leaves the shard", shard, place);
-    else if (!lacks_memory(code)) note("replay of shard %d at place %zu: %s", shard, place, code_text(code));
+    if (code == MEDIA_OK) note("replay: shard %d, place %zu: another size", shard, place);
+    else if (made->made) note("replay: shard %d, place %zu: the shard is left", shard, place);
+    else if (!lacks_memory(code)) note("replay: shard %d, place %zu: %s", shard, place, code_text(code));
     return false;
 }
 
@@ -987,7 +987,7 @@ static void step_request(int shard, struct process *it, const struct message *me
     if (code == MEDIA_OK && made == 1) turn_made(it);
     else if (code == MEDIA_OK) counts[HAD]++;
     else if (code == MEDIA_AHEAD) counts[EARLY]++;
-    else if (!lacks_memory(code)) note("a request of shard %d: %s", shard, code_text(code));
+    else if (!lacks_memory(code)) note("request: shard %d: %s", shard, code_text(code));
 }
 
 /* Each signal but the next one of its lane, as it was sent, is to be refused or to change nothing. */
@@ -995,7 +995,7 @@ static void step_signal(int shard, struct process *it, const struct message *mes
     uint8_t made;
     uint32_t code = media_shard_arrive(&it->shard, &message->at, &made);
     counts[DAMAGED] += message->is_damaged;
-    if (code == MEDIA_OK && made == 1 && message->is_damaged) note("a damaged signal is taken by shard %d", shard);
+    if (code == MEDIA_OK && made == 1 && message->is_damaged) note("signal: shard %d: a damaged one is taken", shard);
     if (code == MEDIA_OK && made == 1) turn_made(it);
     else if (code == MEDIA_OK) counts[HAD]++;
     else if (code == MEDIA_AHEAD) {
@@ -1006,7 +1006,7 @@ static void step_signal(int shard, struct process *it, const struct message *mes
         if (among(4) == 0) end_process(shard, it);
         else it->phase = REPLAYING;
     } else if (!lacks_memory(code) && (!message->is_damaged || (code != MEDIA_DIGEST && code != MEDIA_INVALID)))
-        note("a signal to shard %d: %s", shard, code_text(code));
+        note("signal: shard %d: %s", shard, code_text(code));
 }
 
 /* Asks for a retry that is owed. The process has all that stood at the cut, and its append hangs on what it knows, so
@@ -1023,7 +1023,7 @@ static bool step_retry(int shard, struct process *it) {
                                             &made);
         if (code == MEDIA_OK) turn_made(it);
         else if (code == MEDIA_DISABLED && !is_behind(shard, it)) owed[i].is_disabled = true;
-        else if (code != MEDIA_DISABLED && !lacks_memory(code)) note("a retry of shard %d: %s", shard, code_text(code));
+        else if (code != MEDIA_DISABLED && !lacks_memory(code)) note("retry: shard %d: %s", shard, code_text(code));
         return true;
     }
     return false;
@@ -1037,10 +1037,10 @@ static bool step_shift(int shard, struct process *it) {
     uint32_t number = (uint32_t)among(net.shards[shard].box_count);
     uint8_t made;
     if (!has_program(net.shards[shard].boxes[number])) return false;
-    if (!went(media_shard_see_box(&it->shard, number, &view), "a box", shard) || !view.shifts) return false;
+    if (!went(media_shard_see_box(&it->shard, number, &view), "see", shard) || !view.shifts) return false;
     uint32_t code = media_shard_request(&it->shard, &nobody, number, &event, 0, &made);
     if (code == MEDIA_OK) turn_made(it);
-    else if (!lacks_memory(code)) note("a shift of shard %d: %s", shard, code_text(code));
+    else if (!lacks_memory(code)) note("shift: shard %d: %s", shard, code_text(code));
     return true;
 }
 
@@ -1074,7 +1074,7 @@ static void probe_waiting(int shard, struct process *it) {
     if (media_shard_stamp(&it->shard, &stamp) != MEDIA_WAITS || media_shard_see_box(&it->shard, 0, &view) != MEDIA_WAITS
         || media_shard_request(&it->shard, &nobody, 0, &event, 0, &made) != MEDIA_WAITS || made != 0
         || media_shard_replay(&it->shard, it->bytes, it->size, &size) != MEDIA_WAITS)
-        note("a call of shard %d doesn't wait", shard);
+        note("refusal: shard %d: a call doesn't wait", shard);
 }
 
 /* A retry that isn't owed changes nothing. */
@@ -1085,9 +1085,9 @@ static void probe_retry(int shard, struct process *it) {
     const struct box *box = &net.boxes[net.shards[shard].boxes[number]];
     media_event event = {MEDIA_RETRY, (uint8_t)among(box->count), 0};
     uint8_t made;
-    if (!went(media_shard_see_slot(&it->shard, number, event.first, &view), "a slot", shard) || view.owes) return;
+    if (!went(media_shard_see_slot(&it->shard, number, event.first, &view), "see", shard) || view.owes) return;
     if (media_shard_request(&it->shard, &nobody, number, &event, known, &made) != MEDIA_DISABLED)
-        note("a retry that isn't owed is made by shard %d", shard);
+        note("refusal: shard %d: a retry is made that isn't owed", shard);
 }
 
 /* Calls that have to be refused change nothing. */
@@ -1107,13 +1107,13 @@ static void probe_free(int shard, struct process *it) {
         || media_shard_request(&it->shard, &nobody, 0, &none, known, &made) != MEDIA_DISABLED
         || media_shard_arrive(&it->shard, &far_off, &made) != MEDIA_NO_END
         || media_shard_write(&it->shard, it->bytes, MEDIA_ENTRY_ROOM, &count) != MEDIA_NONE_WAITS)
-        note("a call of shard %d isn't refused as it should be", shard);
+        note("refusal: shard %d: a call isn't refused as it should be", shard);
     probe_retry(shard, it);
 }
 
 static void step_made(int shard, struct process *it) {
     uint32_t code = media_shard_write(&it->shard, it->bytes, MEDIA_ENTRY_ROOM, &it->size);
-    if (!lacks_memory(code) && went(code, "the bytes", shard)) it->phase = WRITTEN;
+    if (!lacks_memory(code) && went(code, "write", shard)) it->phase = WRITTEN;
 }
 
 /* Whether an answer came to what the process wrote last; others are old. */
@@ -1175,7 +1175,7 @@ static bool same_at_end(const media_at_end *one, const media_at_end *other) {
 static void compare_sent(int shard, const struct place *in, const media_at_end *sent, size_t count) {
     bool is_same = count == in->sent_count;
     for (size_t i = 0; is_same && i < count; i++) is_same = same_at_end(&sent[i], &in->sent[i]);
-    if (!is_same) note("shard %d sends something else than its entry says", shard);
+    if (!is_same) note("stands: shard %d: it sends something else than its entry says", shard);
 }
 
 static void step_stands(int shard, struct process *it) {
@@ -1187,7 +1187,7 @@ static void step_stands(int shard, struct process *it) {
         it->is_mark = false;
         return;
     }
-    if (!went(media_shard_stands(&it->shard, sent, MEDIA_SENT_ROOM, &count), "the standing", shard)) return;
+    if (!went(media_shard_stands(&it->shard, sent, MEDIA_SENT_ROOM, &count), "stands", shard)) return;
     if (engine == SOUND) compare_sent(shard, &journals[shard].at[place], sent, count);
     for (size_t i = 0; i < count; i++) carry(shard, &sent[i]);
 }
@@ -1272,14 +1272,14 @@ static media_slot_view views[SLOT_MOST];
 static bool see_box(int box, media_shard *in, media_slot_view *to) {
     static media_box_view view;
     uint32_t seen = media_shard_see_box(in, (uint32_t)net.boxes[box].number, &view);
-    if (!went(seen, "a box", net.boxes[box].shard)) return false;
+    if (!went(seen, "see", net.boxes[box].shard)) return false;
     if (view.shifts || view.slots != net.boxes[box].count || view.number != (uint32_t)box)
-        note("views: box %d isn't at rest, or is another", box);
+        note("views: box %d isn't at rest, or it is another", box);
     for (int i = 0; i < net.boxes[box].count; i++) {
         int slot = net.boxes[box].slots[i];
         memset(&to[slot], 0, sizeof to[slot]);
         uint32_t code = media_shard_see_slot(in, (uint32_t)net.boxes[box].number, (uint8_t)i, &to[slot]);
-        if (!went(code, "a slot", net.boxes[box].shard)) return false;
+        if (!went(code, "see", net.boxes[box].shard)) return false;
     }
     return true;
 }
@@ -1318,7 +1318,7 @@ static bool see_shard(int shard) {
     for (size_t i = 0; is_seen && i < journals[shard].count; i++) is_seen = replay_place(shard, &again, i);
     for (int i = 0; is_seen && i < net.shards[shard].box_count; i++)
         is_seen = see_box(net.shards[shard].boxes[i], &again, views);
-    if (again.made) went(media_shard_end(&again), "the end", shard);
+    if (again.made) went(media_shard_end(&again), "end", shard);
     if (is_seen) compare_living(shard);
     return is_seen && fault[0] == 0;
 }
@@ -1331,10 +1331,10 @@ static void spoil_entry(int shard, media_shard *again, const struct place *it) {
     memcpy(bytes, it->bytes, it->size);
     bytes[at] ^= (uint8_t)(1 << among(8));
     if (media_shard_replay(again, it->bytes, (size_t)among((int)it->size), &size) != MEDIA_NO_ENTRY || size != 0)
-        note("shard %d replays a part of an entry", shard);
+        note("replay: shard %d: a part of an entry is made again", shard);
     uint32_t code = media_shard_replay(again, bytes, it->size, &size);
     if (code != MEDIA_NO_ENTRY && (code != MEDIA_DIFFERS || again->made))
-        note("replay of a spoilt entry of shard %d: %s", shard, code_text(code));
+        note("replay: shard %d: a spoilt entry: %s", shard, code_text(code));
     if (code == MEDIA_NO_ENTRY) went(media_shard_replay(again, it->bytes, it->size, &size), "replay", shard);
     counts[SPOILT]++;
 }
@@ -1348,7 +1348,7 @@ static void try_spoilt(int shard) {
     bool is_made = true;
     for (size_t i = 0; is_made && i < place; i++) is_made = replay_place(shard, &again, i);
     if (is_made) spoil_entry(shard, &again, &in->at[place]);
-    if (again.made) went(media_shard_end(&again), "the end", shard);
+    if (again.made) went(media_shard_end(&again), "end", shard);
 }
 
 static bool see_all(void) {
@@ -1547,7 +1547,7 @@ static void write_journal(FILE *to, const uint64_t *settled) {
         }
         fprintf(to, "settle\n");
     }
-    if (at < count) note("%zu turns came after the last settle", count - at);
+    if (at < count) note("merge: %zu turns came after the last settle", count - at);
     free(lines);
 }
 
