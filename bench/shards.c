@@ -1139,10 +1139,15 @@ static void give_way(int shard, struct process *it) {
     } else end_process(shard, it);
 }
 
-/* The append was refused, or wasn't answered: what stands at its place says what came of it. */
+/* The append was refused, or wasn't answered: what stands at its place says what came of it. The journal is never
+ * shorter than the process knows, unless the engine lost a part of it. */
 static void settle_append(int shard, struct process *it) {
     const struct journal *in = &journals[shard];
-    if (it->place >= in->count || happens(odds.stale_read)) {
+    if (it->place > in->count) {
+        give_way(shard, it);
+        return;
+    }
+    if (it->place == in->count || happens(odds.stale_read)) {
         if (among(3) == 0) send_bytes(shard, it);
         it->patience = 1 + among(12);
         return;
@@ -1227,6 +1232,69 @@ static void tend(int shard) {
     }
 }
 
+/* ---- lanes: what was sent, and what was taken */
+
+/* The bytes of the signals that a place sent, and of that which it took, without the numbers of their ends. */
+static const uint8_t *sent_bytes(const struct place *it, size_t number) {
+    return it->bytes + it->size - SIGNAL_SIZE * (it->sent_count - number) + END_SIZE;
+}
+static const uint8_t *taken_bytes(const struct place *it) {
+    return it->bytes + it->size - SIGNAL_SIZE * (it->sent_count + 1) - 2 + END_SIZE;
+}
+
+struct found {
+    size_t place, number;
+};
+
+/* The next signal that was sent at an end, from here on; false where there is none. */
+static bool next_sent(int end, struct found *at) {
+    const struct journal *from = &journals[shard_of(end)];
+    for (; at->place < from->count; *at = (struct found){at->place + 1, 0})
+        for (; at->number < from->at[at->place].sent_count; at->number++)
+            if (end_at(shard_of(end), from->at[at->place].sent[at->number].end) == end) return true;
+    return false;
+}
+
+static bool takes_at(int shard, const struct place *it, int end) {
+    return !it->is_mark && it->entry.has_taken && end_at(shard, it->entry.taken.end) == end;
+}
+
+/* What was taken from the lane that begins at this end is a front of what was sent there, byte by byte. Where the rest
+ * begins. */
+static struct found compare_front(int end) {
+    int far = end ^ 1, shard = shard_of(far);
+    struct found at = {0, 0};
+    for (size_t i = 0; i < journals[shard].count; i++) {
+        const struct place *it = &journals[shard].at[i];
+        if (!takes_at(shard, it, far)) continue;
+        if (!next_sent(end, &at)) {
+            note("lanes: shard %d took more at end %d than was sent", shard, far);
+            break;
+        }
+        const struct place *from = &journals[shard_of(end)].at[at.place];
+        if (memcmp(sent_bytes(from, at.number), taken_bytes(it), SIGNAL_SIZE - END_SIZE) != 0) {
+            note("lanes: shard %d took another signal at end %d than was sent", shard, far);
+            break;
+        }
+        at.number++;
+        counts[SIGNALS]++;
+        counts[CROSSING] += shard_of(end) != shard;
+    }
+    return at;
+}
+
+static void compare_fronts(void) {
+    for (int end = 0; end < 2 * net.channel_count; end++) compare_front(end);
+}
+
+/* And it is all that was sent. */
+static void compare_lanes(void) {
+    for (int end = 0; fault[0] == 0 && end < 2 * net.channel_count; end++) {
+        struct found at = compare_front(end);
+        if (next_sent(end, &at)) note("lanes: a signal at end %d wasn't taken", end);
+    }
+}
+
 /* ---- until all is quiet */
 
 static bool is_quiet(void) {
@@ -1256,12 +1324,13 @@ static bool settle_down(void) {
     unsigned long rough = 400ul * (unsigned long)(net.shard_count + batch->count);
     unsigned long most = 20 * rough + 200000;
     unsigned long steps = 0;
-    for (; fault[0] == 0 && !is_quiet(); steps++) {
+    for (; fault[0] == 0 && steps < most && !is_quiet(); steps++) {
         if (steps == rough) odds = calm;
-        if (steps == most) note("rest: the shards don't come to rest");
         step();
     }
     odds = drawn;
+    if (steps == most) compare_fronts();
+    if (steps == most) note("rest: the shards don't come to rest");
     return fault[0] == 0;
 }
 
@@ -1431,54 +1500,6 @@ static void print_settle(FILE *to, int number) {
 
 /* ---- what the journals say together */
 
-/* The bytes of the signals that a place sent, and of that which it took, without the numbers of their ends. */
-static const uint8_t *sent_bytes(const struct place *it, size_t number) {
-    return it->bytes + it->size - SIGNAL_SIZE * (it->sent_count - number) + END_SIZE;
-}
-static const uint8_t *taken_bytes(const struct place *it) {
-    return it->bytes + it->size - SIGNAL_SIZE * (it->sent_count + 1) - 2 + END_SIZE;
-}
-
-struct found {
-    size_t place, number;
-};
-
-/* The next signal that was sent at an end, from here on; false where there is none. */
-static bool next_sent(int end, struct found *at) {
-    const struct journal *from = &journals[shard_of(end)];
-    for (; at->place < from->count; *at = (struct found){at->place + 1, 0})
-        for (; at->number < from->at[at->place].sent_count; at->number++)
-            if (end_at(shard_of(end), from->at[at->place].sent[at->number].end) == end) return true;
-    return false;
-}
-
-static bool takes_at(int shard, const struct place *it, int end) {
-    return !it->is_mark && it->entry.has_taken && end_at(shard, it->entry.taken.end) == end;
-}
-
-/* What was taken from the lane that begins at this end is what was sent there, byte by byte. */
-static void compare_lane(int end) {
-    int far = end ^ 1, shard = shard_of(far);
-    struct found at = {0, 0};
-    for (size_t i = 0; i < journals[shard].count; i++) {
-        const struct place *it = &journals[shard].at[i];
-        if (!takes_at(shard, it, far)) continue;
-        if (!next_sent(end, &at)) {
-            note("lanes: shard %d took more at end %d than was sent", shard, far);
-            return;
-        }
-        const struct place *from = &journals[shard_of(end)].at[at.place];
-        if (memcmp(sent_bytes(from, at.number), taken_bytes(it), SIGNAL_SIZE - END_SIZE) != 0) {
-            note("lanes: shard %d took another signal at end %d than was sent", shard, far);
-            return;
-        }
-        at.number++;
-        counts[SIGNALS]++;
-        counts[CROSSING] += shard_of(end) != shard;
-    }
-    if (next_sent(end, &at)) note("lanes: a signal at end %d wasn't taken", end);
-}
-
 /* Whether somebody has come to rest on an entry that was lost: it stood when all had settled, or a signal that it sent
  * was taken. */
 static bool is_rested_on(const struct loss *it) {
@@ -1609,7 +1630,7 @@ static void run(const char *folder, unsigned long seed) {
     }
     close_file(seen);
     count_harm();
-    for (int end = 0; fault[0] == 0 && end < 2 * net.channel_count; end++) compare_lane(end);
+    if (fault[0] == 0) compare_lanes();
     if (fault[0] == 0) {
         FILE *journal = create(folder, seed, "journal");
         write_journal(journal, settled);
