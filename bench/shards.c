@@ -1,8 +1,8 @@
 /* shards FOLDER FIRST COUNT [lost | two]: networks whose boxes are spread over shards, and scripts for them, all drawn.
- * Processes host the shards by the calls of media_shard.h. They crash between any two steps, and second ones begin
- * while the first still live. Memory is refused to them. An engine keeps the journals: it loses appends and answers,
- * doubles them, and takes them late. What was sent is lost, doubled, damaged and overtaken on its way, and read again
- * in the journals.
+ * Some features have programs. Processes host the shards by the calls of media_shard.h. They crash between any two
+ * steps, and second ones begin while the first still live. Memory is refused to them. An engine keeps the journals: it
+ * loses appends and answers, doubles them, and takes them late. What was sent is lost, doubled, damaged and overtaken
+ * on its way, and read again in the journals. With one library a seed draws the same run under each compiler.
  *
  * For each of COUNT seeds N, from FIRST on, FOLDER/N.media is the text, FOLDER/N.journal the journal of all shards
  * together, and FOLDER/N.seen what the slots of the living shards came to at each settle, in the lines that `mediactl
