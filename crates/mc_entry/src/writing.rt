@@ -181,6 +181,7 @@ fn put_all(out: &mut Vec<u8>, sent: &Lane<AtEnd>) -> Result<(), AllocError>
 
 // The most bytes of an entry that took and sent nothing, and those of a signal.
 const BARE_SIZE: usize = 32;
+
 const SIGNAL_SIZE: usize = 54;
 
 /// Appends an entry's bytes: 20, 12 for a request, 54 for what was taken, and 54 for each signal that was sent. After an
