@@ -1,3 +1,4 @@
+pub mod Cutting
 pub mod Digests
 pub mod Journals
 pub mod Loading

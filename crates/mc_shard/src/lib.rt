@@ -3,6 +3,7 @@
 
 mod acting;
 mod asking;
+mod cutting;
 mod digest;
 mod entry;
 mod laid;
@@ -18,6 +19,7 @@ mod replaying;
 mod shard;
 mod taking;
 
+pub use cutting::{cuttable, may_be_cut};
 pub use digest::medium_code;
 pub use entry::{Asked, AtEnd, Entry, Numbered};
 pub use laid::are_laid;
