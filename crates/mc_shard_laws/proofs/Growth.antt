@@ -72,11 +72,11 @@ among_left (y ∷ xs) ys x is = elim is [
   | inr later ↦ inr (among_left xs ys x later)
 ]
 
-among_right : (xs ys : List Numbered) (x : Numbered) → IsAmong ys x → IsAmong (xs ++ ys) x
+pub among_right : (xs ys : List Numbered) (x : Numbered) → IsAmong ys x → IsAmong (xs ++ ys) x
 among_right [] ys x is = is
 among_right (y ∷ xs) ys x is = inr (among_right xs ys x is)
 
-among_split : (xs ys : List Numbered) (x : Numbered) → IsAmong (xs ++ ys) x → IsAmong xs x ⊎ IsAmong ys x
+pub among_split : (xs ys : List Numbered) (x : Numbered) → IsAmong (xs ++ ys) x → IsAmong xs x ⊎ IsAmong ys x
 among_split [] ys x is = inr is
 among_split (y ∷ xs) ys x is = elim is [
   | inl same ↦ inl (inl same)
@@ -102,7 +102,7 @@ taken_append end (entry ∷ entries) more =
     ap (λ (l : List Numbered). items_at end (taken_list entry.taken) ++ l) (taken_append end entries more)
     ∙ sym (append_assoc (items_at end (taken_list entry.taken)) (taken_at end entries) (taken_at end more))
 
-sent_append : (end : ℕ) (entries more : List EntryState) → sent_at end (entries ++ more) ≡ sent_at end entries ++ sent_at end more
+pub sent_append : (end : ℕ) (entries more : List EntryState) → sent_at end (entries ++ more) ≡ sent_at end entries ++ sent_at end more
 sent_append end [] more = refl
 sent_append end (entry ∷ entries) more =
     ap (λ (l : List Numbered). items_at end entry.sent ++ l) (sent_append end entries more)

@@ -8,3 +8,4 @@ pub mod Merged
 pub mod Worked
 pub mod Sound
 pub mod Askers
+pub mod Cuts

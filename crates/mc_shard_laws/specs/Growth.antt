@@ -1,7 +1,8 @@
--- How journals grow, and what no later entry can undo.
-use Rattle.std.specs.Prelude.{◌≡◌, ℕ, ◌<◌, List, [], ◌∷◌, ◌++◌, length, is_some, true}
+-- How journals grow, what no later entry can undo, and what a cut keeps.
+use Rattle.std.specs.Prelude.{◌≡◌, ℕ, ◌<◌, List, [], ◌∷◌, ◌++◌, drop, length, is_some, true}
 use Rattle.std.specs.List.{AllByRecursion}
-use Rattle.mc_shard.specs.Journals.{AreAllAmong, EntryState, IsAmong, sent_at, taken_at}
+use Rattle.mc_shard.specs.Cutting.{IsCuttable, taken_for_good}
+use Rattle.mc_shard.specs.Journals.{AreAllAmong, AreNumbered, EntryState, IsAmong, sent_at, taken_at}
 use Rattle.mc_shard.specs.States.{IsJournal, MayFollow, Places, ShardState, after_entry, count_at, state_after}
 use Rattle.mc_shard.specs.declared.entry.Numbered.{Numbered}
 use Rattle.mc_shard_laws.specs.Together.{Journalled}
@@ -54,3 +55,25 @@ abbrev pub QuietStays : Type 0
 QuietStays = (shards : ℕ → Journalled) (before after : ℕ → List EntryState) → LeadsOn shards before after
     → IsQuietCut shards before → ((shard : ℕ) → AllByRecursion TakesOne (after shard))
     → (shard : ℕ) → after shard ≡ []
+
+-- ---- cuts
+
+-- what is kept of the entries that a snapshot has, and the rest of the journal, which it hasn't, are all that is needed
+-- of the journal, where neighbours' snapshots have taken so many signals at each end
+pub record KeepsTheRest (places : Places) (first : ShardState) (had rest kept : List EntryState)
+    (taken : List ℕ) : Type 0 where
+  -- from the snapshot's state the rest leads where the whole leads
+  pub journal : IsJournal places (state_after first had) rest
+  pub leads : state_after (state_after first had) rest ≡ state_after first (had ++ rest)
+  -- each signal that wasn't taken for good is there still
+  pub sent : (end : ℕ) (item : Numbered) → IsAmong (sent_at end (had ++ rest)) item
+      → taken_for_good taken end < item.number → IsAmong (sent_at end (kept ++ rest)) item
+  -- so whatever a neighbour takes after its snapshot has its sending there
+  pub has_sending : (end : ℕ) (items : List Numbered) → AreNumbered (taken_for_good taken end) items
+      → AreAllAmong items (sent_at end (had ++ rest)) → AreAllAmong items (sent_at end (kept ++ rest))
+
+-- of the entries that a snapshot has, as many as are cuttable may be cut
+abbrev pub CutsKeepTheRest : Type 0
+CutsKeepTheRest = (places : Places) (first : ShardState) (had rest : List EntryState) (taken : List ℕ) (count : ℕ)
+    → IsJournal places first (had ++ rest) → IsCuttable taken had count
+    → KeepsTheRest places first had rest (drop count had) taken

@@ -2,7 +2,7 @@
 
 ghost use Rattle.mc_shard_laws.specs.Askers.{RequestsGoOn};
 ghost use Rattle.mc_shard_laws.specs.Digests.{NextIsChained, SentIsChained};
-ghost use Rattle.mc_shard_laws.specs.Growth.{JournalsGrow, JournalsSplit, QuietStays};
+ghost use Rattle.mc_shard_laws.specs.Growth.{CutsKeepTheRest, JournalsGrow, JournalsSplit, QuietStays};
 ghost use Rattle.mc_shard_laws.specs.Merged.{MergedRun};
 ghost use Rattle.mc_shard_laws.specs.Sound.{NextIsLawful, ShardsKeepSound};
 ghost use Rattle.mc_shard_laws.specs.Together.{ShardsAreLogged, ShardsRun, TakenFromCut, TakenIsFront};
@@ -56,6 +56,12 @@ pub fn worked_shards()
 /// what a neighbour has taken may be cut.
 pub fn taken_from_cut()
     ensures { TakenFromCut }
+{}
+
+/// Of the entries that a snapshot has, a cuttable front may be cut: from the snapshot the rest of the journal leads where
+/// the whole leads, and each signal that a neighbour may still take, from its snapshot on, is in what is kept.
+pub fn cuts_keep_the_rest()
+    ensures { CutsKeepTheRest }
 {}
 
 /// From a sound world shards lead to a sound one.
