@@ -1,6 +1,7 @@
 /* Two shards, each with a phone and a journal, and one channel between them. The program writes each entry into the
  * journal before anybody sees what it sent, and carries that to the other shard, twice: each signal is taken once. Then
- * one shard is lost, and made again from its journal. */
+ * one shard is lost, and made again from its journal. Both are saved, and what the snapshots make needless is cut off
+ * that journal. When the shard is lost once more, it is made again from its snapshot and from what came later. */
 #include <stdio.h>
 #include <stdlib.h>
 #include <string.h>
@@ -17,6 +18,14 @@ struct journal {
     size_t count;
 };
 static struct journal journals[SHARDS];
+
+/* A snapshot: its bytes, how many bytes of the journal it has, and how many signals were taken then. */
+struct snapshot {
+    uint8_t *at;
+    size_t count, had;
+    uint64_t taken;
+};
+static struct snapshot snapshots[SHARDS];
 
 /* What stands in a shard's journal as sent, and is to be carried to the other one. */
 struct lane {
@@ -104,19 +113,59 @@ static void show(int who) {
            (unsigned)view.sends.flows, (unsigned)view.hears.flows);
 }
 
-/* A new shard makes each entry of the journal again. */
-static void replay(int who) {
+/* The shard makes each entry of the journal from this byte on again. */
+static void replay(int who, size_t at) {
     const struct journal *journal = &journals[who];
     media_at_end sent[MEDIA_SENT_ROOM];
     media_entry entry;
     size_t size, count;
-    make(who);
-    for (size_t at = 0; at < journal->count; at += size) {
+    for (; at < journal->count; at += size) {
         want(media_entry_read(journal->at + at, journal->count - at, &entry, sent, MEDIA_SENT_ROOM, &count), "read");
         printf("  %s, stamp %u, sent %u\n", events[entry.event.kind], (unsigned)entry.stamp, (unsigned)count);
         want(media_shard_replay(&shards[who], journal->at + at, journal->count - at, &size), "replay");
         if (size != entry.size) abort();
     }
+}
+
+static void save(int who) {
+    struct snapshot *snapshot = &snapshots[who];
+    uint8_t none;
+    size_t need;
+    if (media_shard_save(&shards[who], &none, 0, &need) != MEDIA_NO_ROOM) abort();
+    free(snapshot->at);
+    snapshot->at = malloc(need);
+    if (!snapshot->at) abort();
+    want(media_shard_save(&shards[who], snapshot->at, need, &snapshot->count), "save");
+    if (snapshot->count != need) abort();
+    want(media_shard_taken(&shards[who], 0, &snapshot->taken), "taken");
+    snapshot->had = journals[who].count;
+    printf("%s is saved, with %u signals taken\n", names[who], (unsigned)snapshot->taken);
+}
+
+/* What the snapshot has goes off the front of the journal, up to what the other shard's hasn't taken. */
+static void cut(int who) {
+    struct journal *journal = &journals[who];
+    struct snapshot *snapshot = &snapshots[who];
+    unsigned entries = 0;
+    size_t at = 0, size;
+    while (at < snapshot->had) {
+        uint8_t may;
+        want(media_entry_may_be_cut(journal->at + at, snapshot->had - at, &snapshots[1 - who].taken, 1, &may, &size),
+             "may be cut");
+        if (!may) break;
+        at += size;
+        entries++;
+    }
+    journal->count -= at;
+    snapshot->had -= at;
+    memmove(journal->at, journal->at + at, journal->count);
+    printf("%s: %u entries are cut off\n", names[who], entries);
+}
+
+static void load(int who) {
+    const struct snapshot *snapshot = &snapshots[who];
+    if (media_shard_load(&shards[who], snapshot->at, snapshot->count - 1) != MEDIA_NO_SNAPSHOT) abort();
+    want(media_shard_load(&shards[who], snapshot->at, snapshot->count), "load");
 }
 
 int main(void) {
@@ -132,13 +181,24 @@ int main(void) {
     show(BOB);
     want(media_shard_end(&shards[ALICE]), "end");
     printf("alice is lost, and made again\n");
-    replay(ALICE);
+    make(ALICE);
+    replay(ALICE, 0);
     show(ALICE);
+    save(BOB);
     ask(ALICE, 2, MEDIA_GOAL_CLOSE);
+    save(ALICE);
+    cut(ALICE);
     settle(carried);
     show(ALICE);
     show(BOB);
     want(media_shard_end(&shards[ALICE]), "end");
-    want(media_shard_end(&shards[BOB]), "end");
+    printf("alice is lost, and loaded\n");
+    load(ALICE);
+    replay(ALICE, snapshots[ALICE].had);
+    show(ALICE);
+    for (int who = 0; who < SHARDS; who++) {
+        want(media_shard_end(&shards[who]), "end");
+        free(snapshots[who].at);
+    }
     return 0;
 }

@@ -16,13 +16,18 @@
  * A shard that is made again as it was made first, and into which each entry of its journal was replayed in order, is
  * as it was. What was sent at an end is what the entries of the journal say, so all that wasn't carried can be read there.
  *
+ * A snapshot is a shard as bytes, in the place of all of its journal up to then: one that is loaded from it, and into
+ * which each later entry was replayed, is as it was. Once it is kept where it lasts, entries that it has may be cut off
+ * the front of the journal, up to the first of which media_entry_may_be_cut says that it may not: a neighbour may have to
+ * be sent again what that sent.
+ *
  * To link: libmc_shard_c.a, and what media_box.h says of malloc. Of media_box.h it has the types and numbers alone, and
  * none of its calls.
  *
  * What the caller owes is what media_box.h says, of a media_shard as of a media_box. Each number may be anything. All
- * calls but media_shard_version answer a code. After each code but MEDIA_OK all is as it was, but that a count, a size
- * or a `made` is 0 then, and but for media_shard_replay, which says so. No call waits, reads a clock, prints or ends the
- * program. */
+ * calls but media_shard_version answer a code. After each code but MEDIA_OK all is as it was, but that a count, a size,
+ * a `made` or a `may` is 0 then, and but for media_shard_replay and media_shard_save, which say so. No call waits, reads
+ * a clock, prints or ends the program. */
 #ifndef MEDIA_SHARD_H
 #define MEDIA_SHARD_H
 
@@ -33,7 +38,7 @@ extern "C" {
 #endif
 
 /* The version of this interface. It is another where something that is declared here has changed. */
-#define MEDIA_SHARD_VERSION 1
+#define MEDIA_SHARD_VERSION 2
 
 /* ---- codes, beside those of media_box.h: there MEDIA_NO_BOX says that the shard has no box of the number */
 
@@ -50,7 +55,8 @@ enum {
                               its journal */
     MEDIA_STAMP = 19,      /* there is no stamp above those that the turn's has to be above */
     MEDIA_NO_ENTRY = 20,   /* the bytes don't begin with an entry */
-    MEDIA_DIFFERS = 21     /* the entry isn't the one that the boxes make */
+    MEDIA_DIFFERS = 21,    /* the entry isn't the one that the boxes make */
+    MEDIA_NO_SNAPSHOT = 22 /* the bytes aren't the snapshot of a shard */
 };
 
 /* ---- sizes */
@@ -179,6 +185,19 @@ uint32_t media_shard_stands(media_shard *shard, media_at_end *out, size_t room, 
  * MEDIA_DIGEST, MEDIA_STAMP or MEDIA_DIFFERS. */
 uint32_t media_shard_replay(media_shard *shard, const uint8_t *bytes, size_t count, size_t *size);
 
+/* How many signals were taken at a channel end comes into `*taken`.
+ * MEDIA_OK, MEDIA_NO_SHARD, MEDIA_WAITS or MEDIA_NO_END. */
+uint32_t media_shard_taken(media_shard *shard, uint32_t end, uint64_t *taken);
+
+/* The bytes of the shard's snapshot come into the first `*count` of the `room` places of `bytes`; the others stay.
+ * After MEDIA_NO_ROOM `*count` is how many there are, so a call without room asks for that.
+ * MEDIA_OK, MEDIA_NO_SHARD, MEDIA_WAITS, MEDIA_NO_ROOM or MEDIA_MEMORY. */
+uint32_t media_shard_save(media_shard *shard, uint8_t *bytes, size_t room, size_t *count);
+
+/* Makes the shard whose snapshot the bytes are. Bytes that were saved are the snapshot of the shard that was saved, and
+ * of no other. MEDIA_OK, MEDIA_HAS_SHARD, MEDIA_MEMORY, or MEDIA_NO_SNAPSHOT where the bytes are the snapshot of none. */
+uint32_t media_shard_load(media_shard *shard, const uint8_t *bytes, size_t count);
+
 /* What there is to see of a box comes into `*out`. MEDIA_OK, MEDIA_NO_SHARD, MEDIA_WAITS or MEDIA_NO_BOX. */
 uint32_t media_shard_see_box(media_shard *shard, uint32_t box, media_box_view *out);
 
@@ -191,6 +210,13 @@ uint32_t media_shard_see_slot(media_shard *shard, uint32_t box, uint8_t slot, me
  * wrote. MEDIA_OK, MEDIA_NO_ENTRY, MEDIA_NO_ROOM or MEDIA_MEMORY. */
 uint32_t media_entry_read(const uint8_t *bytes, size_t count, media_entry *entry, media_at_end *out, size_t room,
                           size_t *sent_count);
+
+/* Whether the entry that bytes begin with, and that a snapshot of its shard has, may be cut off the front of the
+ * journal. `*may` is 1 where all that it sent was taken for good, and else 0: `taken` says for each channel end of the
+ * shard how many signals the far end's snapshot has taken (media_shard_taken, when that was saved); none were at ends
+ * from `end_count` on. `*size` is how many of the bytes are the entry's. MEDIA_OK, MEDIA_NO_ENTRY or MEDIA_MEMORY. */
+uint32_t media_entry_may_be_cut(const uint8_t *bytes, size_t count, const uint64_t *taken, size_t end_count,
+                                uint8_t *may, size_t *size);
 
 #ifdef __cplusplus
 }

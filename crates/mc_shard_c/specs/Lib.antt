@@ -4,6 +4,7 @@ pub mod Exports
 pub mod Handles
 pub mod Kept
 pub mod Laying
+pub mod Saving
 pub mod Seeing
 pub mod Texts
 pub mod Turns

@@ -3,11 +3,11 @@ use Rattle.std.specs.Prelude.{ℕ, Bool, ◌==◌, codes, if◌then◌else◌, L
 use Rattle.mc_plain.specs.Texts.{text_of as plain_text_of}
 use Rattle.mc_shard.specs.declared.refused.Refused.{Refused}
 use Rattle.mc_shard.specs.declared.refused.Refused.TheVariants.{Ahead, Differs, Digest, NoAsker, NoBox, NoEnd, NoMemory, NoTunnel, NotEnabled, Stamp, Unlawful, VersionEnd}
-use Rattle.mc_shard_c.specs.declared.answer.TheConstants.{NO_BOX, MEMORY, UNLAWFUL, DISABLED, VERSION_END, NO_SHARD, HAS_SHARD, WAITS, NONE_WAITS, NO_ASKER, NO_END, NO_TUNNEL, AHEAD, DIGEST, STAMP, NO_ENTRY, DIFFERS}
+use Rattle.mc_shard_c.specs.declared.answer.TheConstants.{NO_BOX, MEMORY, UNLAWFUL, DISABLED, VERSION_END, NO_SHARD, HAS_SHARD, WAITS, NONE_WAITS, NO_ASKER, NO_END, NO_TUNNEL, AHEAD, DIGEST, STAMP, NO_ENTRY, DIFFERS, NO_SNAPSHOT}
 
 -- the number is a code
 abbrev pub is_code : ℕ → Bool
-is_code code = nat_lt code 22
+is_code code = nat_lt code 23
 
 -- what a code says, and nothing where the number is none
 abbrev pub text_of : ℕ → List ℕ
@@ -23,7 +23,8 @@ text_of code =
     if code == DIGEST then codes "the digest doesn't go on from the last one" else
     if code == STAMP then codes "there is no stamp for the turn" else
     if code == NO_ENTRY then codes "the bytes don't begin with an entry" else
-    if code == DIFFERS then codes "the boxes don't make this entry" else plain_text_of code
+    if code == DIFFERS then codes "the boxes don't make this entry" else
+    if code == NO_SNAPSHOT then codes "the bytes are no snapshot" else plain_text_of code
 
 -- the code of a shard's refusal
 abbrev pub code_of : Refused → ℕ

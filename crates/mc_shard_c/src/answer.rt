@@ -69,6 +69,9 @@ pub const NO_ENTRY: u32 = 20;
 /// The entry isn't the one that the boxes make.
 pub const DIFFERS: u32 = 21;
 
+/// The bytes are no shard's snapshot.
+pub const NO_SNAPSHOT: u32 = 22;
+
 /// The code of a shard's refusal.
 pub fn code_of(why: Refused) -> u32
     ensures { result ≡ code_of why }
@@ -107,6 +110,7 @@ pub fn text(code: u32) -> Option<&'static str>
         STAMP => Some("there is no stamp for the turn"),
         NO_ENTRY => Some("the bytes don't begin with an entry"),
         DIFFERS => Some("the boxes don't make this entry"),
+        NO_SNAPSHOT => Some("the bytes are no snapshot"),
         _ => plain::text(code),
     }
 }

@@ -3,6 +3,7 @@
 ghost use Rattle.std.specs.Prelude.{◌≡◌, ◌≢◌, length};
 ghost use Rattle.mc_plain.specs.Views.{flag_number};
 ghost use Rattle.mc_shard_c.specs.Entries.{goal_number, HasRead, WhyNotRead, plain_entry, plain_event, plain_taken, taken_number};
+ghost use Rattle.mc_shard_c.specs.Saving.{HasJudged, SaysMayBeCut, WhyNotJudged};
 ghost use Rattle.mc_shard_c.specs.declared.answer.TheConstants.{OK};
 
 use crate::answer;
@@ -11,7 +12,7 @@ use crate::writing::give;
 use mc_box::{Change, Event, MediaChange};
 use mc_entry::{EntryFault, read_entry};
 use mc_plain::asked::PlainEvent;
-use mc_shard::{AtEnd, Entry};
+use mc_shard::{AtEnd, Entry, may_be_cut};
 use mc_slot::Goal;
 use std::alloc::Global;
 
@@ -128,6 +129,33 @@ pub fn read_into(
             }
             *plain = PlainEntry::of(&entry, size);
             *count = give(&entry.sent, out);
+            answer::OK
+        }
+        Err(EntryFault::NoEntry) => answer::NO_ENTRY,
+        Err(EntryFault::NoMemory) => answer::MEMORY,
+    }
+}
+
+// 1 where an entry may be cut, and 0 where it may not.
+fn cut_number(taken: &[u64], entry: &Entry) -> u8
+    ensures { SaysMayBeCut result taken.now entry.now }
+{
+    if may_be_cut(taken, entry) { 1 } else { 0 }
+}
+
+/// Whether the entry that bytes begin with may be cut comes into `may`, and how many bytes it takes into `size`. Answers
+/// a code.
+pub fn judge(alloc: Global, bytes: &[u8], taken: &[u64], may: &mut u8, size: &mut usize) -> u32
+    ensures ok { result ≡ OK → HasJudged bytes.now taken.now may.new size.new }
+    ensures not { result ≢ OK → (may.new ≡ 0) × (size.new ≡ 0) }
+    ensures why_not { result ≢ OK → WhyNotJudged bytes.now result }
+{
+    *may = 0;
+    *size = 0;
+    match read_entry(alloc, bytes) {
+        Ok((entry, len)) => {
+            *may = cut_number(taken, &entry);
+            *size = len;
             answer::OK
         }
         Err(EntryFault::NoEntry) => answer::NO_ENTRY,

@@ -6,6 +6,7 @@ ghost use Rattle.mc_shard.specs.declared.limit.TheConstants.{SENT_LIMIT};
 
 use crate::answer;
 use crate::at_end::{PlainAsked, PlainAtEnd};
+use crate::saving::{count_at, save_into};
 use crate::writing::{give, write_into};
 use mc_plain::asked::PlainEvent;
 use mc_plain::view::{PlainBoxView, PlainSlotView};
@@ -24,9 +25,10 @@ pub struct HeldShard {
 impl HeldShard {
     ghost use Rattle.std.specs.Prelude.{◌≡◌, ◌≢◌, ◌<◌, MatchBool, None};
     ghost use Rattle.mc_plain.specs.Views.{box_view, slot_view};
-    ghost use Rattle.mc_shard.specs.States.{box_in};
+    ghost use Rattle.mc_shard.specs.States.{box_in, count_at};
     ghost use Rattle.mc_shard_writer.specs.Writers.{Waits};
     ghost use Rattle.mc_shard_c.specs.Handles.{writer_of};
+    ghost use Rattle.mc_shard_c.specs.Saving.{HasEnd, HasSaved, WhyNoSnapshot, WhyNotTold};
     ghost use Rattle.mc_shard_c.specs.Seeing.{IsSeen, WhyNoBox, WhyNoSlot};
     ghost use Rattle.mc_shard_c.specs.Turns.{HasArrived, HasRequested, HasStood, HasWritten, WhyNotArrived, WhyNotRequested, WhyNotStood, WhyNotWritten};
     ghost use Rattle.mc_shard_c.specs.Waiting.{WhyNoStamp};
@@ -54,6 +56,38 @@ impl HeldShard {
         }
         *stamp = self.shard.stamp();
         answer::OK
+    }
+
+    /// How many signals were taken at a channel end comes into `taken`. Answers a code.
+    pub fn taken(&self, end: u32, taken: &mut u64) -> u32
+        ensures ok { result ≡ OK
+            → HasEnd (writer_of self.now) end × (taken.new ≡ count_at self.now.shard.state.taken end) }
+        ensures unchanged { result ≢ OK → taken.new ≡ taken.old }
+        ensures why_not { result ≢ OK → WhyNotTold (writer_of self.now) end result }
+    {
+        if !self.is_free() {
+            return answer::WAITS;
+        }
+        let lanes = &self.shard.parts().taken;
+        if lanes.len() <= end as usize {
+            return answer::NO_END;
+        }
+        *taken = count_at(lanes, end);
+        answer::OK
+    }
+
+    /// The bytes of the shard's snapshot come into `bytes`, and how many they are into `count`, also where there is no
+    /// room for them. Answers a code.
+    pub fn save(&self, alloc: Global, bytes: &mut [u8], count: &mut usize) -> u32
+        ensures ok { result ≡ OK → HasSaved (writer_of self.now) bytes.old bytes.new count.new }
+        ensures unchanged { result ≢ OK → bytes.new ≡ bytes.old }
+        ensures why_not { result ≢ OK → WhyNoSnapshot (writer_of self.now) (length bytes.old) count.new result }
+    {
+        if !self.is_free() {
+            *count = 0;
+            return answer::WAITS;
+        }
+        save_into(alloc, &self.shard, bytes, count)
     }
 
     /// What there is to see of a box comes into `out`. Answers a code.

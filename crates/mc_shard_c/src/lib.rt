@@ -4,17 +4,18 @@
 ghost use Rattle.std.specs.Prelude.{◌≡◌, ◌≢◌, ◌<◌, ◌==◌, ◌||◌, IsTrue, true, false, is_some, None, length};
 ghost use Rattle.mc_plain.specs.Texts.{padded};
 ghost use Rattle.mc_plain.specs.Views.{box_view, slot_view};
-ghost use Rattle.mc_shard.specs.States.{box_in};
+ghost use Rattle.mc_shard.specs.States.{box_in, count_at};
 ghost use Rattle.mc_shard.specs.declared.limit.TheConstants.{SENT_LIMIT};
 ghost use Rattle.mc_shard_writer.specs.Writers.{Waits};
 ghost use Rattle.mc_shard_c.specs.Entries.{HasRead, HasReplayed, StaysOrGone, WhyNotRead};
 ghost use Rattle.mc_shard_c.specs.Exports.{writer_in};
 ghost use Rattle.mc_shard_c.specs.Handles.{Between, Of};
 ghost use Rattle.mc_shard_c.specs.Laying.{SaysNoShard, SaysWriter};
+ghost use Rattle.mc_shard_c.specs.Saving.{AreNoSnapshot, HasEnd, HasJudged, HasSaved, IsLoaded, WhyNoSnapshot, WhyNotJudged, WhyNotTold};
 ghost use Rattle.mc_shard_c.specs.Seeing.{IsSeen, WhyNoBox, WhyNoSlot};
 ghost use Rattle.mc_shard_c.specs.Texts.{is_code, text_of};
 ghost use Rattle.mc_shard_c.specs.Turns.{HasArrived, HasRequested, HasStood, HasWritten, WhyNotArrived, WhyNotRequested, WhyNotStood, WhyNotWritten};
-ghost use Rattle.mc_shard_c.specs.declared.answer.TheConstants.{OK, MEMORY, INVALID, NO_ROOM, NO_SHARD, HAS_SHARD, WAITS};
+ghost use Rattle.mc_shard_c.specs.declared.answer.TheConstants.{OK, MEMORY, INVALID, NO_ROOM, NO_SHARD, HAS_SHARD, WAITS, NO_SNAPSHOT};
 ghost use Rattle.mc_shard_c.specs.declared.writing.TheConstants.{ENTRY_ROOM};
 
 mod answer;
@@ -27,6 +28,7 @@ mod kept;
 pub mod laws;
 mod laying;
 mod replaying;
+mod saving;
 mod writing;
 
 use at_end::{PlainAsked, PlainAtEnd};
@@ -39,15 +41,16 @@ use mc_plain::asked::PlainEvent;
 use mc_plain::program::PlainState;
 use mc_plain::text::PlainText;
 use mc_plain::view::{PlainBoxView, PlainSlotView};
+use mc_snapshot::SnapshotFault;
 use std::alloc::Global;
 
 /// The version of the interface. It changes with each change that C would see.
-pub const VERSION: u32 = 1;
+pub const VERSION: u32 = 2;
 
 /// The version of the interface, which the header has, too.
 #[unsafe(no_mangle)]
 pub extern "C" fn media_shard_version() -> u32
-    ensures { result ≡ 1 }
+    ensures { result ≡ 2 }
 {
     VERSION
 }
@@ -138,6 +141,85 @@ pub extern "C" fn media_shard_stamp(alloc: Global, handle: &mut Handle, stamp: &
             code
         }
         None => answer::NO_SHARD,
+    }
+}
+
+/// How many signals were taken at a channel end comes into `taken`.
+#[unsafe(no_mangle)]
+pub extern "C" fn media_shard_taken(
+    alloc: Global,
+    handle: &mut Handle,
+    end: u32,
+    taken: &mut u64,
+) -> u32
+    ensures ok { result ≡ OK → Of (writer_in handle.old)
+        (λ old. HasEnd old end × (taken.new ≡ count_at old.shard.state.taken end)) }
+    ensures unchanged { writer_in handle.new ≡ writer_in handle.old }
+    ensures not { result ≢ OK → taken.new ≡ taken.old }
+    ensures no_shard { result ≡ NO_SHARD → writer_in handle.old ≡ None }
+    ensures why_not { result ≢ OK → result ≢ NO_SHARD → Of (writer_in handle.old)
+        (λ old. WhyNotTold old end result) }
+{
+    match handle.open(alloc) {
+        Some(held) => {
+            let code = held.taken(end, taken);
+            handle.close(held);
+            code
+        }
+        None => answer::NO_SHARD,
+    }
+}
+
+/// The bytes of the shard's snapshot come into `bytes`, and how many they are into `count`, also where there is no room
+/// for them.
+#[unsafe(no_mangle)]
+pub extern "C" fn media_shard_save(
+    alloc: Global,
+    handle: &mut Handle,
+    bytes: &mut [u8],
+    count: &mut usize,
+) -> u32
+    ensures ok { result ≡ OK → Of (writer_in handle.old)
+        (λ old. HasSaved old bytes.old bytes.new count.new) }
+    ensures unchanged { writer_in handle.new ≡ writer_in handle.old }
+    ensures not { result ≢ OK → bytes.new ≡ bytes.old }
+    ensures no_shard { result ≡ NO_SHARD → (writer_in handle.old ≡ None) × (count.new ≡ 0) }
+    ensures why_not { result ≢ OK → result ≢ NO_SHARD → Of (writer_in handle.old)
+        (λ old. WhyNoSnapshot old (length bytes.old) count.new result) }
+{
+    match handle.open(alloc) {
+        Some(held) => {
+            let code = held.save(alloc, bytes, count);
+            handle.close(held);
+            code
+        }
+        None => {
+            *count = 0;
+            answer::NO_SHARD
+        }
+    }
+}
+
+/// Makes the shard whose snapshot the bytes are. The handle must have none.
+#[unsafe(no_mangle)]
+pub extern "C" fn media_shard_load(alloc: Global, handle: &mut Handle, bytes: &[u8]) -> u32
+    ensures loaded { result ≡ OK → Of (writer_in handle.new) (IsLoaded bytes.now) }
+    ensures first { result ≡ OK → writer_in handle.old ≡ None }
+    ensures unchanged { result ≢ OK → writer_in handle.new ≡ writer_in handle.old }
+    ensures has_shard { result ≡ HAS_SHARD → is_some (writer_in handle.old) ≡ true }
+    ensures no_snapshot { result ≡ NO_SNAPSHOT → AreNoSnapshot bytes.now }
+    ensures codes { IsTrue (result == OK || result == HAS_SHARD || result == MEMORY || result == NO_SNAPSHOT) }
+{
+    if handle.has_shard() {
+        return answer::HAS_SHARD;
+    }
+    match saving::load(alloc, bytes) {
+        Ok(held) => {
+            handle.close(held);
+            answer::OK
+        }
+        Err(SnapshotFault::NoShard) => answer::NO_SNAPSHOT,
+        Err(SnapshotFault::NoMemory) => answer::MEMORY,
     }
 }
 
@@ -348,4 +430,22 @@ pub extern "C" fn media_entry_read(
     ensures why_not { result ≢ OK → WhyNotRead bytes.now (length out.old) result }
 {
     entry::read_into(alloc, bytes, entry, out, count)
+}
+
+/// Whether the entry that bytes begin with, which a snapshot of its shard has, may be cut off the journal comes into
+/// `may`, and how many of the bytes are its form into `size`. `taken` says for each channel end of the shard how many
+/// signals the snapshot of the neighbour has taken.
+#[unsafe(no_mangle)]
+pub extern "C" fn media_entry_may_be_cut(
+    alloc: Global,
+    bytes: &[u8],
+    taken: &[u64],
+    may: &mut u8,
+    size: &mut usize,
+) -> u32
+    ensures ok { result ≡ OK → HasJudged bytes.now taken.now may.new size.new }
+    ensures not { result ≢ OK → (may.new ≡ 0) × (size.new ≡ 0) }
+    ensures why_not { result ≢ OK → WhyNotJudged bytes.now result }
+{
+    entry::judge(alloc, bytes, taken, may, size)
 }

@@ -18,8 +18,8 @@ use std::alloc::Global;
 /// The most bytes that an entry of a shard takes.
 pub const ENTRY_ROOM: usize = 6998;
 
-// These bytes come in front of the others.
-fn put_in_front(form: &[u8], bytes: &mut [u8])
+/// These bytes come in front of the others.
+pub fn put_in_front(form: &[u8], bytes: &mut [u8])
     requires { length form.now ≤ length bytes.old }
     ensures { bytes.new ≡ form.now ++ drop (length form.now) bytes.old }
 {
