@@ -1,6 +1,6 @@
 //! Snapshots as C gets them and hands them in.
 
-ghost use Rattle.std.specs.Prelude.{◌≡◌, ◌≢◌, ◌<◌, IfErr, IfOk, length};
+ghost use Rattle.std.specs.Prelude.{◌≡◌, ◌≢◌, ◌<◌, ◌++◌, IfErr, IfOk, MatchBool, drop, length};
 ghost use Rattle.mc_shard.specs.States.{count_at};
 ghost use Rattle.mc_shard_c.specs.Handles.{writer_of};
 ghost use Rattle.mc_shard_c.specs.Saving.{AreNoSnapshot, IsLoaded, IsSaved, WhyNotSaved};
@@ -22,6 +22,21 @@ pub fn count_at(lanes: &Vec<Reached>, end: u32) -> u64
     lanes[end as usize].count
 }
 
+// These bytes come in front of the others, where there is room for them, and how many they are into `count` anyway.
+// Answers whether there was room.
+fn put_if_room(form: &[u8], bytes: &mut [u8], count: &mut usize) -> bool
+    ensures count { count.new ≡ length form.now }
+    ensures put { MatchBool result (bytes.new ≡ form.now ++ drop (length form.now) bytes.old)
+        ((length bytes.old < length form.now) × (bytes.new ≡ bytes.old)) }
+{
+    *count = form.len();
+    if bytes.len() < form.len() {
+        return false;
+    }
+    put_in_front(form, bytes);
+    true
+}
+
 /// The bytes of a shard's snapshot come into `bytes`, and how many they are into `count`, also where there is no room
 /// for them. Answers a code.
 pub fn save_into(alloc: Global, shard: &Shard, bytes: &mut [u8], count: &mut usize) -> u32
@@ -34,12 +49,11 @@ pub fn save_into(alloc: Global, shard: &Shard, bytes: &mut [u8], count: &mut usi
     if write_shard(shard, &mut form).is_err() {
         return answer::MEMORY;
     }
-    *count = form.len();
-    if bytes.len() < form.len() {
-        return answer::NO_ROOM;
+    if put_if_room(&form, bytes, count) {
+        answer::OK
+    } else {
+        answer::NO_ROOM
     }
-    put_in_front(&form, bytes);
-    answer::OK
 }
 
 /// The shard whose snapshot the bytes are, of which no entry waits.
