@@ -1,8 +1,10 @@
-/* shards FOLDER FIRST COUNT [lost | two]: networks whose boxes are spread over shards, and scripts for them, all drawn.
+/* shards FOLDER FIRST COUNT [lost | two | cuts]: networks whose boxes are spread over shards, and scripts for them, all drawn.
  * Some features have programs. Processes host the shards by the calls of media_shard.h. They crash between any two
  * steps, and second ones begin while the first still live. Memory is refused to them. An engine keeps the journals: it
  * loses appends and answers, doubles them, and takes them late. What was sent is lost, doubled, damaged and overtaken
- * on its way, and read again in the journals. With one library a seed draws the same run under each compiler.
+ * on its way, and read again in the journals. Processes save their shards at any moment, a store loses some of these
+ * snapshots and gets others late, and what may be cut of the journals is cut, so nobody reads it any more but this
+ * program, to compare. With one library a seed draws the same run under each compiler.
  *
  * For each of COUNT seeds N, from FIRST on, FOLDER/N.media is the text, FOLDER/N.journal the journal of all shards
  * together, and FOLDER/N.seen what the slots of the living shards came to at each settle, in the lines that `mediactl
@@ -10,7 +12,8 @@
  * `fault` with what was wrong, if anything was; then there may be no journal.
  *
  * With a fourth word the engine breaks its promise now and then: `lost` loses entries that it had taken and answered,
- * and `two` lets a second process write at a place that has an entry, over it or behind all. */
+ * `two` lets a second process write at a place that has an entry, over it or behind all, and `cuts` cuts off entries
+ * that may not be cut. No shards are saved under the first two. */
 #include <stdarg.h>
 #include <stdio.h>
 #include <stdlib.h>
@@ -35,6 +38,7 @@ enum {
     MESSAGE_MOST = 256,
     APPEND_MOST = 16,
     LOSS_MOST = 64,
+    SAVE_MOST = 4, /* snapshots of a shard on their way */
     SIGNAL_SIZE = 54, /* bytes of a signal in an entry, of which the first are the number of its end */
     END_SIZE = 4,
     NONE = -1
@@ -63,12 +67,13 @@ static bool happens(int one_of) { return one_of > 0 && among(one_of) == 0; }
 enum count {
     SHARDS, BOXES, SETTLES, TURNS, SIGNALS, CROSSING, CRASHES, LATE_WRITES, SECOND_OWNERS, CLAIMS, FENCED, REPLAYED,
     APPENDS, REFUSED, UNANSWERED, LOST_APPENDS, DOUBLED_APPENDS, LOST_SIGNALS, DOUBLED_SIGNALS, READ_AGAIN, DAMAGED,
-    HAD, EARLY, RESENT, RETRIES, MEMORY, PROBES, SPOILT, BREAKS, HARMED, COUNTS
+    HAD, EARLY, RESENT, RETRIES, MEMORY, PROBES, SPOILT, SAVED, UNKEPT, RESUMED, OUTRUN, CUT, BREAKS, HARMED, COUNTS
 };
 static const char *const count_names[COUNTS] = {
     "shards", "boxes", "settles", "turns", "signals", "crossing", "crashes", "late", "second", "claims", "fenced",
     "replayed", "appends", "refused", "unanswered", "lost", "doubled", "undelivered", "twice", "reread", "damaged",
-    "had", "early", "resent", "retries", "memory", "probes", "spoilt", "breaks", "harmed"};
+    "had", "early", "resent", "retries", "memory", "probes", "spoilt", "saved", "unkept", "resumed", "outrun", "cut",
+    "breaks", "harmed"};
 static unsigned long counts[COUNTS];
 static char fault[400]; /* the first thing that was wrong, or nothing */
 
@@ -508,11 +513,11 @@ static void write_text(FILE *to) {
 
 /* ---- what goes wrong in a run, and how often: each number says one of how many times, and 0 never */
 
-enum engine { SOUND, LOSES, TWO_WRITE };
+enum engine { SOUND, LOSES, TWO_WRITE, CUTS };
 static enum engine engine;
 static struct odds {
     int crash, begin_second, lose_append, double_append, lose_answer, stale_read, lose_signal, double_signal, damage,
-        lose_message, refuse_memory, probe, break_promise;
+        lose_message, refuse_memory, probe, save, lose_snapshot, break_promise;
 } odds, calm;
 
 static int rate(int from, int to) { return among(4) == 0 ? 0 : from + among(to - from + 1); }
@@ -532,8 +537,12 @@ static void draw_odds(void) {
     odds.lose_message = rate(4, 40);
     odds.refuse_memory = rate(30, 900);
     odds.probe = rate(8, 80);
+    odds.save = rate(4, 60);
+    odds.lose_snapshot = rate(2, 20);
     if (engine == LOSES) odds.break_promise = 20 + among(300);
     if (engine == TWO_WRITE) odds.break_promise = 1 + among(20);
+    if (engine == CUTS) odds.break_promise = 1 + among(20);
+    if (engine == LOSES || engine == TWO_WRITE) odds.save = 0;
 }
 
 /* ---- memory, which is refused to processes now and then: the linker has malloc and realloc lead here */
@@ -585,6 +594,7 @@ struct answer {
 struct journal {
     struct place *at;
     size_t count, room;
+    size_t cut; /* how many places were cut off: nobody but the comparisons reads them any more */
     struct append appends[APPEND_MOST];
     struct answer answers[APPEND_MOST];
     int append_count, answer_count;
@@ -835,8 +845,8 @@ static void read_again(int shard) {
     if (net.shards[shard].end_count == 0) return;
     int end = net.shards[shard].ends[among(net.shards[shard].end_count)];
     const struct journal *from = &journals[shard];
-    size_t place = happens(4) && from->count > 0 ? (size_t)among((int)from->count) : 0;
-    bool is_any = place > 0;
+    bool is_any = happens(4) && from->count > from->cut;
+    size_t place = from->cut + (is_any ? (size_t)among((int)(from->count - from->cut)) : 0);
     int read = 0;
     if (!is_any && sent_at[end] == taken_at[end ^ 1]) return;
     for (; place < from->count && read < 6; place++)
@@ -862,6 +872,79 @@ static void send_request(void) {
     struct message it = {.asks = &batch->commands[command], .known = known};
     counts[RESENT]++;
     push_message(net.boxes[batch->commands[command].box].shard, &it);
+}
+
+/* ---- the store: of each shard the snapshot that is kept, and those on their way to it */
+
+struct snapshot {
+    uint8_t *bytes;
+    size_t size;              /* 0 where there is none */
+    size_t place;             /* how many places of the journal it is of */
+    uint64_t taken[END_MOST]; /* how many signals were taken at each end, by its number in the shard */
+};
+struct store {
+    struct snapshot kept, on_way[SAVE_MOST];
+    int count;
+};
+static struct store stores[SHARD_MOST];
+
+/* A snapshot that comes to the store is kept where it is of more than the one that is kept. */
+static void serve_snapshot(int shard) {
+    struct store *to = &stores[shard];
+    if (to->count == 0) return;
+    int at = among(to->count);
+    struct snapshot it = to->on_way[at];
+    to->on_way[at] = to->on_way[--to->count];
+    if (it.place <= to->kept.place || happens(odds.lose_snapshot)) {
+        counts[UNKEPT]++;
+        free(it.bytes);
+        return;
+    }
+    free(to->kept.bytes);
+    to->kept = it;
+}
+
+/* How many signals the far ends' snapshots have taken, by the shard's ends. */
+static void list_taken(int shard, uint64_t *taken) {
+    for (int i = 0; i < net.shards[shard].end_count; i++) {
+        int far = net.shards[shard].ends[i] ^ 1;
+        taken[i] = stores[shard_of(far)].kept.taken[net.end_numbers[far]];
+    }
+}
+
+static bool may_be_cut(int shard, const struct place *it, const uint64_t *taken) {
+    uint8_t may;
+    size_t size;
+    bool all_taken = true;
+    if (it->is_mark) return true;
+    for (size_t i = 0; i < it->sent_count; i++)
+        if (it->sent[i].number > taken[it->sent[i].end]) all_taken = false;
+    uint32_t code = media_entry_may_be_cut(it->bytes, it->size, taken, (size_t)net.shards[shard].end_count, &may, &size);
+    if (went(code, "cut", shard) && (size != it->size || (may == 1) != all_taken))
+        note("cut: shard %d: another entry may be cut", shard);
+    return all_taken;
+}
+
+/* Whether a signal that this place sent wasn't taken yet. */
+static bool is_waited_for(int shard, const struct place *it) {
+    for (size_t i = 0; i < it->sent_count; i++)
+        if (it->sent[i].number > taken_at[end_at(shard, it->sent[i].end) ^ 1]) return true;
+    return false;
+}
+
+/* Some places that the kept snapshot has are cut off, up to one that may not be. */
+static void cut_front(int shard) {
+    static uint64_t taken[END_MOST];
+    struct journal *of = &journals[shard];
+    list_taken(shard, taken);
+    for (int i = among(32); i > 0 && of->cut < stores[shard].kept.place; i--) {
+        const struct place *it = &of->at[of->cut];
+        bool may = may_be_cut(shard, it, taken);
+        if (!may && !(engine == CUTS && happens(odds.break_promise))) return;
+        counts[BREAKS] += !may && is_waited_for(shard, it);
+        counts[CUT]++;
+        of->cut++;
+    }
 }
 
 /* ---- processes, each of which hosts a shard */
@@ -901,11 +984,20 @@ static bool make_shard(int shard, media_shard *made) {
     return !lacks_memory(code) && went(code, "make", shard);
 }
 
+static bool load_shard(int shard, media_shard *made) {
+    uint32_t code = media_shard_load(made, stores[shard].kept.bytes, stores[shard].kept.size);
+    return !lacks_memory(code) && went(code, "load", shard);
+}
+
+/* It makes its shard from the kept snapshot, or from nothing, if it can. */
 static void begin_process(int shard, struct process *it) {
+    bool resumes = stores[shard].kept.size > 0 && (journals[shard].cut > 0 || among(4) > 0);
     memset(it, 0, sizeof *it);
     may_refuse = true;
-    bool is_made = make_shard(shard, &it->shard);
+    bool is_made = resumes ? load_shard(shard, &it->shard) : make_shard(shard, &it->shard);
     may_refuse = false;
+    counts[RESUMED] += resumes;
+    if (resumes) it->place = stores[shard].kept.place;
     if (!is_made) return;
     it->number = ++process_count;
     it->phase = REPLAYING;
@@ -954,9 +1046,18 @@ static void claim(int shard, struct process *it) {
     send_bytes(shard, it);
 }
 
+/* What the process has to read next was cut off meanwhile. It ends, and another one begins from the snapshot. */
+static bool is_outrun(int shard, struct process *it) {
+    if (it->place >= journals[shard].cut) return false;
+    counts[OUTRUN]++;
+    end_process(shard, it);
+    return true;
+}
+
 /* Some places further, to what the process takes for the end. */
 static void step_replaying(int shard, struct process *it) {
     size_t end = journals[shard].count;
+    if (is_outrun(shard, it)) return;
     bool is_stale = happens(odds.stale_read);
     for (int i = among(16); i >= 0 && it->place < end; i--) {
         if (!replay_place(shard, &it->shard, it->place)) {
@@ -1044,8 +1145,43 @@ static bool step_shift(int shard, struct process *it) {
     return true;
 }
 
+/* The bytes of the shard's snapshot, or none where memory is refused. */
+static uint8_t *saved_bytes(int shard, media_shard *of, size_t *size) {
+    uint8_t nothing, *bytes;
+    size_t again;
+    uint32_t code = media_shard_save(of, &nothing, 0, size);
+    if (lacks_memory(code)) return NULL;
+    if (code != MEDIA_NO_ROOM || *size == 0) note("save: shard %d without room: %s", shard, code_text(code));
+    bytes = room_for(NULL, *size + 1);
+    code = media_shard_save(of, bytes, *size, &again);
+    if (lacks_memory(code) || !went(code, "save", shard)) {
+        free(bytes);
+        return NULL;
+    }
+    if (again != *size) note("save: shard %d: it has another size", shard);
+    return bytes;
+}
+
+/* The process sends a snapshot to the store. */
+static void step_save(int shard, struct process *it) {
+    struct store *to = &stores[shard];
+    if (to->count == SAVE_MOST) return;
+    struct snapshot *made = &to->on_way[to->count];
+    made->place = it->place;
+    made->bytes = saved_bytes(shard, &it->shard, &made->size);
+    if (made->bytes == NULL) return;
+    for (int i = 0; i < net.shards[shard].end_count; i++)
+        went(media_shard_taken(&it->shard, (uint32_t)i, &made->taken[i]), "taken", shard);
+    counts[SAVED]++;
+    to->count++;
+}
+
 static void step_free(int shard, struct process *it) {
     struct traffic *from = &traffic[shard];
+    if (happens(odds.save)) {
+        step_save(shard, it);
+        return;
+    }
     if (is_behind(shard, it) && among(4) == 0) {
         it->phase = REPLAYING;
         it->claims = among(2) == 0;
@@ -1143,6 +1279,7 @@ static void give_way(int shard, struct process *it) {
  * shorter than the process knows, unless the engine lost a part of it. */
 static void settle_append(int shard, struct process *it) {
     const struct journal *in = &journals[shard];
+    if (is_outrun(shard, it)) return;
     if (it->place > in->count) {
         give_way(shard, it);
         return;
@@ -1314,6 +1451,8 @@ static void step(void) {
     if (among(4) > 0) serve_append(shard);
     step_process(shard, &processes[shard][among(PROCESS_MOST)]);
     tend(shard);
+    if (among(4) == 0) serve_snapshot(shard);
+    if (among(4) == 0) cut_front(shard);
     if (among(4) == 0) read_again(shard);
     if (among(4) == 0) send_request();
 }
@@ -1380,6 +1519,41 @@ static void compare_living(int shard) {
     }
 }
 
+/* Other bytes than a snapshot's are none, or that of another shard. */
+static void spoil_snapshot(int shard, uint8_t *bytes, size_t size) {
+    media_shard other = MEDIA_SHARD_NONE;
+    size_t length = among(4) == 0 ? (size_t)among((int)size) : size, count = 0;
+    if (length == size) bytes[among((int)size)] ^= (uint8_t)(1 << among(8));
+    counts[SPOILT]++;
+    uint32_t code = media_shard_load(&other, bytes, length);
+    if (code == MEDIA_NO_SNAPSHOT || !went(code, "load", shard)) return;
+    uint8_t *again = saved_bytes(shard, &other, &count);
+    if (again == NULL || count != length || memcmp(again, bytes, length) != 0)
+        note("load: shard %d: a spoilt snapshot is another one's", shard);
+    free(again);
+    went(media_shard_end(&other), "end", shard);
+}
+
+/* A shard that goes on from the kept snapshot comes to what the one comes to that was made again of all of its
+ * journal: their snapshots are the same bytes. */
+static void compare_resumed(int shard, media_shard *whole) {
+    const struct snapshot *from = &stores[shard].kept;
+    media_shard resumed = MEDIA_SHARD_NONE;
+    size_t size = 0, count = 0;
+    if (from->size == 0 || !load_shard(shard, &resumed)) return;
+    bool is_made = true;
+    for (size_t i = from->place; is_made && i < journals[shard].count; i++)
+        is_made = replay_place(shard, &resumed, i);
+    uint8_t *one = is_made ? saved_bytes(shard, whole, &size) : NULL;
+    uint8_t *other = is_made ? saved_bytes(shard, &resumed, &count) : NULL;
+    if (one == NULL || other == NULL || size != count || memcmp(one, other, size) != 0)
+        note("resumed: shard %d comes to something else from its snapshot", shard);
+    else spoil_snapshot(shard, other, count);
+    free(one);
+    free(other);
+    if (resumed.made) went(media_shard_end(&resumed), "end", shard);
+}
+
 static bool see_shard(int shard) {
     media_shard again = MEDIA_SHARD_NONE;
     if (!make_shard(shard, &again)) return false;
@@ -1387,6 +1561,7 @@ static bool see_shard(int shard) {
     for (size_t i = 0; is_seen && i < journals[shard].count; i++) is_seen = replay_place(shard, &again, i);
     for (int i = 0; is_seen && i < net.shards[shard].box_count; i++)
         is_seen = see_box(net.shards[shard].boxes[i], &again, views);
+    if (is_seen) compare_resumed(shard, &again);
     if (again.made) went(media_shard_end(&again), "end", shard);
     if (is_seen) compare_living(shard);
     return is_seen && fault[0] == 0;
@@ -1596,6 +1771,7 @@ static void begin_run(unsigned long seed) {
     memset(journals, 0, sizeof journals);
     memset(processes, 0, sizeof processes);
     memset(traffic, 0, sizeof traffic);
+    memset(stores, 0, sizeof stores);
     fault[0] = 0;
     memset(settled_places, 0, sizeof settled_places);
     greatest = known = process_count = 0;
@@ -1614,6 +1790,8 @@ static void end_run(void) {
         for (size_t k = 0; k < journals[i].count; k++) clear_place(&journals[i].at[k]);
         for (int k = 0; k < journals[i].append_count; k++) free(journals[i].appends[k].bytes);
         free(journals[i].at);
+        for (int k = 0; k < stores[i].count; k++) free(stores[i].on_way[k].bytes);
+        free(stores[i].kept.bytes);
     }
     for (int i = 0; i < loss_count; i++) clear_place(&losses[i].place);
 }
@@ -1650,7 +1828,7 @@ static void print_run(unsigned long seed) {
 int main(int count, char **words) {
     if (count < 4 || media_shard_version() != MEDIA_SHARD_VERSION) return 2;
     unsigned long first = strtoul(words[2], NULL, 10), number = strtoul(words[3], NULL, 10);
-    if (count > 4) engine = strcmp(words[4], "lost") == 0 ? LOSES : TWO_WRITE;
+    if (count > 4) engine = strcmp(words[4], "lost") == 0 ? LOSES : strcmp(words[4], "two") == 0 ? TWO_WRITE : CUTS;
     for (unsigned long i = 0; i < number; i++) {
         run(words[1], first + i);
         print_run(first + i);
