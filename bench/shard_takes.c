@@ -1,10 +1,13 @@
 /* shard_takes TIMES CODECS: two phones, with so many codecs each, call and hang up so many times over a desk that links
  * its slots, as in takes.c; each is in a shard of its own, and each entry is written before anybody sees what it sent.
- * Then each shard is made again from its journal. It prints how many signals were taken, how many entries there are, and
- * how many bytes these have. bench/shard_takes counts the instructions of the calls. */
+ * Then each shard is made again from its journal, and from a snapshot. It prints how many signals were taken, how many
+ * entries there are, and how many bytes these have; then the desk's entries, and how many milliseconds of processor time
+ * it takes to make the desk again from them; and the same of its snapshot's bytes. bench/shard_takes counts the
+ * instructions of the calls. */
 #include <stdio.h>
 #include <stdlib.h>
 #include <string.h>
+#include <time.h>
 #include "media_shard.h"
 
 enum { QUEUE = 64, ENDS = 4 };
@@ -96,11 +99,29 @@ static void end_all(void) {
     for (int i = 0; i < SHARDS; i++) want(media_shard_end(&shards[i]));
 }
 
-static void begin_again(void) {
-    for (int i = 0; i < SHARDS; i++) {
-        for (size_t at = 0, size; at < journals[i].size; at += size)
-            want(media_shard_replay(&shards[i], journals[i].at + at, journals[i].size - at, &size));
+static double milliseconds(clock_t since) { return 1000.0 * (double)(clock() - since) / CLOCKS_PER_SEC; }
+
+static void begin_again(int shard) {
+    for (size_t at = 0, size; at < journals[shard].size; at += size)
+        want(media_shard_replay(&shards[shard], journals[shard].at + at, journals[shard].size - at, &size));
+}
+
+/* Ends a shard, and begins it from its snapshot, whose bytes are counted. */
+static double begin_from_snapshot(int shard, size_t *size) {
+    uint8_t none, *bytes;
+    if (media_shard_save(&shards[shard], &none, 0, size) != MEDIA_NO_ROOM) abort();
+    bytes = malloc(*size);
+    if (bytes == NULL) abort();
+    want(media_shard_save(&shards[shard], bytes, *size, size));
+    want(media_shard_end(&shards[shard]));
+    clock_t start = clock();
+    for (int i = 0; i < 1000; i++) {
+        if (i > 0) want(media_shard_end(&shards[shard]));
+        want(media_shard_load(&shards[shard], bytes, *size));
     }
+    double took = milliseconds(start) / 1000;
+    free(bytes);
+    return took;
 }
 
 int main(int count, char **words) {
@@ -121,7 +142,13 @@ int main(int count, char **words) {
     }
     end_all();
     make_all(codecs);
-    begin_again();
+    begin_again(ALICE);
+    begin_again(BOB);
+    clock_t start = clock();
+    begin_again(DESK);
+    double replayed = milliseconds(start);
+    size_t snapshot;
+    double loaded = begin_from_snapshot(DESK, &snapshot);
     end_all();
     unsigned long entries = 0, size = 0;
     for (int i = 0; i < SHARDS; i++) {
@@ -129,6 +156,6 @@ int main(int count, char **words) {
         size += journals[i].size;
         free(journals[i].at);
     }
-    printf("%lu %lu %lu\n", takes, entries, size);
+    printf("%lu %lu %lu %lu %.1f %zu %.4f\n", takes, entries, size, journals[DESK].entries, replayed, snapshot, loaded);
     return 0;
 }
