@@ -12,8 +12,8 @@ use Rattle.mc_shard_c.specs.declared.answer.TheConstants.{MEMORY, NO_END, NO_ENT
 -- ---- what was taken
 
 -- the end is there, and no entry waits
-abbrev pub HasEnd : WriterState → ℕ → Type 0
-HasEnd writer end = (writer.made ≡ None) × (end < length writer.shard.state.taken)
+abbrev pub IsEndSeen : WriterState → ℕ → Type 0
+IsEndSeen writer end = (writer.made ≡ None) × (end < length writer.shard.state.taken)
 
 -- no entry waits, but the end isn't there
 abbrev pub LacksEnd : WriterState → ℕ → Type 0

@@ -28,7 +28,7 @@ impl HeldShard {
     ghost use Rattle.mc_shard.specs.States.{box_in, count_at};
     ghost use Rattle.mc_shard_writer.specs.Writers.{Waits};
     ghost use Rattle.mc_shard_c.specs.Handles.{writer_of};
-    ghost use Rattle.mc_shard_c.specs.Saving.{HasEnd, HasSaved, WhyNoSnapshot, WhyNotTold};
+    ghost use Rattle.mc_shard_c.specs.Saving.{IsEndSeen, HasSaved, WhyNoSnapshot, WhyNotTold};
     ghost use Rattle.mc_shard_c.specs.Seeing.{IsSeen, WhyNoBox, WhyNoSlot};
     ghost use Rattle.mc_shard_c.specs.Turns.{HasArrived, HasRequested, HasStood, HasWritten, WhyNotArrived, WhyNotRequested, WhyNotStood, WhyNotWritten};
     ghost use Rattle.mc_shard_c.specs.Waiting.{WhyNoStamp};
@@ -61,7 +61,7 @@ impl HeldShard {
     /// How many signals were taken at a channel end comes into `taken`. Answers a code.
     pub fn taken(&self, end: u32, taken: &mut u64) -> u32
         ensures ok { result ≡ OK
-            → HasEnd (writer_of self.now) end × (taken.new ≡ count_at self.now.shard.state.taken end) }
+            → IsEndSeen (writer_of self.now) end × (taken.new ≡ count_at self.now.shard.state.taken end) }
         ensures unchanged { result ≢ OK → taken.new ≡ taken.old }
         ensures why_not { result ≢ OK → WhyNotTold (writer_of self.now) end result }
     {

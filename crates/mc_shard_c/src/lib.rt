@@ -11,7 +11,7 @@ ghost use Rattle.mc_shard_c.specs.Entries.{HasRead, HasReplayed, StaysOrGone, Wh
 ghost use Rattle.mc_shard_c.specs.Exports.{writer_in};
 ghost use Rattle.mc_shard_c.specs.Handles.{Between, Of};
 ghost use Rattle.mc_shard_c.specs.Laying.{SaysNoShard, SaysWriter};
-ghost use Rattle.mc_shard_c.specs.Saving.{AreNoSnapshot, HasEnd, HasJudged, HasSaved, IsLoaded, WhyNoSnapshot, WhyNotJudged, WhyNotTold};
+ghost use Rattle.mc_shard_c.specs.Saving.{AreNoSnapshot, IsEndSeen, HasJudged, HasSaved, IsLoaded, WhyNoSnapshot, WhyNotJudged, WhyNotTold};
 ghost use Rattle.mc_shard_c.specs.Seeing.{IsSeen, WhyNoBox, WhyNoSlot};
 ghost use Rattle.mc_shard_c.specs.Texts.{is_code, text_of};
 ghost use Rattle.mc_shard_c.specs.Turns.{HasArrived, HasRequested, HasStood, HasWritten, WhyNotArrived, WhyNotRequested, WhyNotStood, WhyNotWritten};
@@ -153,7 +153,7 @@ pub extern "C" fn media_shard_taken(
     taken: &mut u64,
 ) -> u32
     ensures ok { result ≡ OK → Of (writer_in handle.old)
-        (λ old. HasEnd old end × (taken.new ≡ count_at old.shard.state.taken end)) }
+        (λ old. IsEndSeen old end × (taken.new ≡ count_at old.shard.state.taken end)) }
     ensures unchanged { writer_in handle.new ≡ writer_in handle.old }
     ensures not { result ≢ OK → taken.new ≡ taken.old }
     ensures no_shard { result ≡ NO_SHARD → writer_in handle.old ≡ None }

@@ -1,5 +1,5 @@
 //! Tests of shards: a call between two of them, requests that are made once, what they refuse, their journals made again,
-//! compared and merged, the bytes of entries, snapshots, and what is seen before an entry stands.
+//! compared, merged and cut, the bytes of entries, snapshots, and what is seen before an entry stands.
 #![tactic(auto)]
 
 #[cfg(test)]
@@ -10,6 +10,8 @@ mod asking;
 mod bytes;
 #[cfg(test)]
 mod calls;
+#[cfg(test)]
+mod cuts;
 #[cfg(test)]
 mod equal;
 #[cfg(test)]
