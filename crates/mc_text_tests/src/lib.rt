@@ -21,3 +21,5 @@ mod tails;
 mod text;
 #[cfg(test)]
 mod told;
+#[cfg(test)]
+mod written;

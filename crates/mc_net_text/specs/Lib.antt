@@ -1,0 +1,4 @@
+pub mod Lines
+pub mod Names
+pub mod NetLaws
+pub mod Texts
